@@ -1,0 +1,22 @@
+-- The device's sessions by their ids.
+use Rattle.std.specs.Prelude.{ℕ, ◌≡◌, ◌<◌, Option, Some, None, List, length, map, slice_index_or, IfSome, option_and_then}
+use Rattle.slab.specs.Slab.{Slab, get}
+use Rattle.vm_host.specs.declared.session.Session.{Session}
+
+-- How many sessions may be opened, and by id each session that was opened, until it is closed.
+pub record HostState : Type 0 where
+  pub opens : ℕ
+  pub sessions : List (Option Session)
+
+-- what stands in the slab at a key, if there is one
+abbrev pub session_at : Slab Session → Option ℕ → Option Session
+session_at slab None = None
+session_at slab (Some key) = get slab key
+
+abbrev pub sessions_at : Slab Session → List (Option ℕ) → List (Option Session)
+sessions_at slab keys = map (session_at slab) keys
+
+-- each key leads to the session of its place
+abbrev pub HasEachSession : Slab Session → List (Option ℕ) → Type 0
+HasEachSession slab keys =
+    (id : ℕ) → id < length keys → IfSome (slice_index_or keys id None) (λ key. get slab key ≡ Some (record { id = id }))
