@@ -1,5 +1,5 @@
--- The numbers of the errors.
-use Rattle.std.specs.Prelude.{ℕ}
+-- The numbers and names of the errors.
+use Rattle.std.specs.Prelude.{ℕ, List, [], ◌∷◌, Option, codes, find, ◌==◌}
 use Rattle.v4l_const.specs.declared.errno.Errno.{Errno}
 use Rattle.v4l_const.specs.declared.errno.Errno.TheVariants.{Enoent, Eio, Ebadf, Eagain, Enomem, Eacces, Efault, Ebusy, Einval, Enotty, Edeadlk, Emsgsize, Eopnotsupp}
 
@@ -18,3 +18,26 @@ errno_number Enotty = 25
 errno_number Edeadlk = 35
 errno_number Emsgsize = 90
 errno_number Eopnotsupp = 95
+
+-- Source: the same
+abbrev pub errno_name : Errno → List ℕ
+errno_name Enoent = codes "ENOENT"
+errno_name Eio = codes "EIO"
+errno_name Ebadf = codes "EBADF"
+errno_name Eagain = codes "EAGAIN"
+errno_name Enomem = codes "ENOMEM"
+errno_name Eacces = codes "EACCES"
+errno_name Efault = codes "EFAULT"
+errno_name Ebusy = codes "EBUSY"
+errno_name Einval = codes "EINVAL"
+errno_name Enotty = codes "ENOTTY"
+errno_name Edeadlk = codes "EDEADLK"
+errno_name Emsgsize = codes "EMSGSIZE"
+errno_name Eopnotsupp = codes "EOPNOTSUPP"
+
+abbrev pub errnos : List Errno
+errnos = Enoent ∷ Eio ∷ Ebadf ∷ Eagain ∷ Enomem ∷ Eacces ∷ Efault ∷ Ebusy ∷ Einval ∷ Enotty ∷ Edeadlk ∷ Emsgsize ∷ Eopnotsupp ∷ []
+
+-- the error that has a number
+abbrev pub errno_of : ℕ → Option Errno
+errno_of n = find (λ e. n == errno_number e) errnos
