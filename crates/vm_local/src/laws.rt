@@ -1,0 +1,24 @@
+ghost use Rattle.std.specs.Prelude.{◌≡◌, ℕ, List, [], ◌∷◌, ◌++◌, Bool, not, if◌then◌else◌, Some, None};
+ghost use Rattle.std.specs.Option.{option_and_then};
+ghost use Rattle.v4l_const.specs.declared.errno.Errno.TheVariants.{Enomem, Ebadf};
+ghost use Rattle.vm_local.specs.declared.call.Call.TheVariants.{OpenHandle, CloseHandle};
+ghost use Rattle.vm_local.specs.declared.entry.Entry.{Entry};
+ghost use Rattle.vm_local.specs.declared.reply.Reply.TheVariants.{Done, Refused};
+ghost use Rattle.vm_local.specs.State.{LocalState};
+ghost use Rattle.vm_local.specs.Calls.{opened_anew, closed};
+ghost use Rattle.vm_local.specs.Log.{called, after, replay_from};
+
+/// The replay of a log and a further one is the replay of the further one, from where the first one leads.
+#[tactic(auto, using(crate::proofs::LogLemmas::replay_from_append))]
+pub fn replay_of_an_append()
+    ensures { (s : LocalState) → (first second : List Entry) → replay_from s (first ++ second) ≡ option_and_then (λ t. replay_from t second) (replay_from s first) }
+{}
+
+/// Opening leads to the opening state, opened; or memory was wanting, and nothing is changed.
+#[tactic(auto, unfolding(crate::specs::Log::called))]
+pub fn open_and_close()
+    ensures opens { (s : LocalState) (line : ℕ) (nonblock : Bool) → called s line (OpenHandle nonblock) Done ≡ Some (opened_anew s nonblock) }
+    ensures lacks_memory { (s : LocalState) (line : ℕ) (nonblock : Bool) → called s line (OpenHandle nonblock) (Refused Enomem) ≡ Some s }
+    ensures closes { (s : LocalState) (line : ℕ) → called s line CloseHandle Done ≡ (if s.opened then Some (closed s) else None) }
+    ensures was_closed { (s : LocalState) (line : ℕ) → called s line CloseHandle (Refused Ebadf) ≡ (if s.opened then None else Some s) }
+{}
