@@ -1,4 +1,4 @@
-ghost use Rattle.std.specs.Prelude.{◌≡◌, ◌<◌, List, ℕ, length, slice_index, slice_set};
+ghost use Rattle.std.specs.Prelude.{◌≡◌, ◌+◌, ◌<◌, ◌≤◌, ◌++◌, List, ℕ, length, take, drop, slice_index, slice_set};
 
 /// A run of bytes of fixed length, however it is kept.
 pub trait Store {
@@ -18,4 +18,32 @@ pub trait Store {
     fn set(&mut self, i: u32, b: u8)
         requires { i < length (bytes_of self.old) }
         ensures { bytes_of self.new ≡ slice_set (bytes_of self.old) i b };
+
+    /// Fills `into` with the bytes from `at` on.
+    fn copy_out(&self, at: u32, into: &mut [u8])
+        requires { at + length into.old ≤ length (bytes_of self.now) }
+        ensures { into.new ≡ take (length into.old) (drop at (bytes_of self.now)) }
+    {
+        // The size fits its type, so no place wraps.
+        let _size = self.size();
+        let mut place = at;
+        for byte in into.iter_mut() {
+            *byte = self.get(place);
+            place += 1;
+        }
+    }
+
+    /// Sets the bytes from `at` on to those of `from`, and no others.
+    fn copy_in(&mut self, at: u32, from: &[u8])
+        requires { at + length from.now ≤ length (bytes_of self.old) }
+        ensures { bytes_of self.new ≡ take at (bytes_of self.old) ++ (from.now ++ drop (at + length from.now) (bytes_of self.old)) }
+    {
+        // The size fits its type, so no place wraps.
+        let _size = self.size();
+        let mut place = at;
+        for byte in from {
+            self.set(place, *byte);
+            place += 1;
+        }
+    }
 }
