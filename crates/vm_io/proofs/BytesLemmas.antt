@@ -2,7 +2,7 @@
 use Rattle.std.proofs.Common.{◌≡◌, ℕ, ◌+◌, ◌-◌, List, ◌++◌, length, take, drop, Option, None, Some, IsSome, refl, sym, ap, append_assoc, append-nil, arith, length-append}
 use Rattle.std.proofs.lemmas.List.{take_rest}
 use Rattle.std.proofs.Math.Seq.{take-add}
-use Rattle.vm_io.specs.Bytes.{WasRead, WasAppended, NothingLeft, came}
+use Rattle.vm_io.specs.Bytes.{WasRead, WasAppended, NothingLeft, count_read}
 
 pub was_read-append : (old now new : Option (List ℕ)) (xs ys : List ℕ) → WasRead old now xs → WasRead now new ys → WasRead old new (xs ++ ys)
 was_read-append old now None xs ys first next = rw (first, next) refl
@@ -13,10 +13,10 @@ was_appended-append None now new xs ys first next = rw (next, first) refl
 was_appended-append (Some held) now new xs ys first next = rw (next, first) (ap Some (append_assoc held xs ys))
 
 -- where the source tells, what left shrank by is as long as the bytes that came
-pub came-was_read : (old new : Option (List ℕ)) (bytes : List ℕ) → WasRead old new bytes → IsSome old → came old new ≡ length bytes
-came-was_read None new bytes read tells = cc
-came-was_read (Some all) None bytes read tells = cc
-came-was_read (Some all) (Some rest) bytes read tells = let same : all ≡ bytes ++ rest = cc in rw (same, length-append) (omega arith)
+pub count_read-was_read : (old new : Option (List ℕ)) (bytes : List ℕ) → WasRead old new bytes → IsSome old → count_read old new ≡ length bytes
+count_read-was_read None new bytes read tells = cc
+count_read-was_read (Some all) None bytes read tells = cc
+count_read-was_read (Some all) (Some rest) bytes read tells = let same : all ≡ bytes ++ rest = cc in rw (same, length-append) (omega arith)
 
 -- what was read to the end is all that was left
 pub was_read-whole : (all : List ℕ) (new : Option (List ℕ)) (bytes : List ℕ) → WasRead (Some all) new bytes → NothingLeft new → bytes ≡ all

@@ -16,10 +16,10 @@ abbrev pub NothingLeft : Option (List ℕ) → Type 0
 NothingLeft left = IfSome left (λ bytes. bytes ≡ [])
 
 -- how many bytes came: what is left shrank by so many
-abbrev pub came : Option (List ℕ) → Option (List ℕ) → ℕ
-came (Some old) (Some new) = length old - length new
-came (Some old) None = 0
-came None new = 0
+abbrev pub count_read : Option (List ℕ) → Option (List ℕ) → ℕ
+count_read (Some old) (Some new) = length old - length new
+count_read (Some old) None = 0
+count_read None new = 0
 
 -- the bytes went out: they stand behind what was held
 abbrev pub WasAppended : Option (List ℕ) → Option (List ℕ) → List ℕ → Type 0

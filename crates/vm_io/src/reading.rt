@@ -1,5 +1,5 @@
 ghost use Rattle.std.specs.Prelude.{◌≡◌, ◌<◌, ◌≤◌, ◌↔◌, IfOk, OnOk, IsErrOf, IsSome, vec_len};
-ghost use Rattle.vm_io.specs.Bytes.{WasRead, SomeRead, NothingLeft, came};
+ghost use Rattle.vm_io.specs.Bytes.{WasRead, SomeRead, NothingLeft, count_read};
 ghost use Rattle.vm_io.specs.Faults.{Rose};
 ghost use Rattle.vm_io.specs.declared.reading.ReadError.TheVariants.{ReadFault as read_fault, Memory as memory};
 
@@ -50,7 +50,7 @@ pub fn read_all<S: Source>(alloc: Global, src: &mut S, limit: usize) -> Result<V
     ensures within { IfOk result (λ bytes. vec_len bytes ≤ limit) }
 
     // TooLong comes exactly where more than `limit` bytes came, ReadFault only where the faults rose.
-    ensures too_long { IsSome (S.left src.old) → (IsErrOf result ReadError.TooLong ↔ (limit < came (S.left src.old) (S.left src.new))) }
+    ensures too_long { IsSome (S.left src.old) → (IsErrOf result ReadError.TooLong ↔ (limit < count_read (S.left src.old) (S.left src.new))) }
     ensures fault { IsErrOf result ReadError.ReadFault → Rose (S.faults src.old) (S.faults src.new) }
 
     // Whatever the answer.
