@@ -1,0 +1,30 @@
+-- What became of the bytes that a source had left and a sink held. An outside that doesn't tell its
+-- bytes has None there, before and after.
+use Rattle.std.specs.Prelude.{◌≡◌, ℕ, ◌-◌, ◌<◌, List, [], ◌++◌, length, take, Option, None, Some, IfSome}
+use Rattle.std.specs.Option.{option_map}
+
+-- the bytes came: they stood at the front of what was left, and the rest is left
+abbrev pub WasRead : Option (List ℕ) → Option (List ℕ) → List ℕ → Type 0
+WasRead old new bytes = old ≡ option_map (λ rest. bytes ++ rest) new
+
+-- some bytes came, or none: what is left now is the end of what was left
+abbrev pub SomeRead : Option (List ℕ) → Option (List ℕ) → Type 0
+SomeRead old new = (bytes : List ℕ) × WasRead old new bytes
+
+-- no byte is left, where the source tells
+abbrev pub NothingLeft : Option (List ℕ) → Type 0
+NothingLeft left = IfSome left (λ bytes. bytes ≡ [])
+
+-- how many bytes came: what is left shrank by so many
+abbrev pub count_read : Option (List ℕ) → Option (List ℕ) → ℕ
+count_read (Some old) (Some new) = length old - length new
+count_read (Some old) None = 0
+count_read None new = 0
+
+-- the bytes went out: they stand behind what was held
+abbrev pub WasAppended : Option (List ℕ) → Option (List ℕ) → List ℕ → Type 0
+WasAppended old new bytes = new ≡ option_map (λ held. held ++ bytes) old
+
+-- a part of the bytes went out: some from their front, or none, and never all
+abbrev pub PartAppended : Option (List ℕ) → Option (List ℕ) → List ℕ → Type 0
+PartAppended old new bytes = (n : ℕ) × (n < length bytes) × WasAppended old new (take n bytes)
