@@ -1,8 +1,9 @@
 -- The lines that a script gives to one handle.
-use Rattle.std.specs.Prelude.{ℕ, ◌==◌, Bool, false, List, [], ◌∷◌, map, filter, ◌++◌, Option, Some, None, if◌then◌else◌}
+use Rattle.std.specs.Prelude.{ℕ, ◌+◌, ◌==◌, Bool, false, List, [], ◌∷◌, map, filter, ◌++◌, Option, Some, None, if◌then◌else◌}
 use Rattle.vm_local.specs.declared.call.Call.{Call}
 use Rattle.vm_local.specs.declared.entry.Entry.{Entry}
 use Rattle.vm_local.specs.declared.entry.Entry.TheVariants.{Called, Finish, Bad, Give}
+use Rattle.vm_script.specs.Script.{ProcessLines}
 use Rattle.vm_script.specs.declared.line.Line.{Line}
 use Rattle.vm_script.specs.declared.line.LineKind.{LineKind}
 use Rattle.vm_script.specs.declared.line.LineKind.TheVariants.{OnHandle, Raw}
@@ -41,3 +42,12 @@ calls_of (Give ∷ es) = calls_of es
 -- the echoes of a process's lines on one handle, in order
 abbrev pub echoes_of : ℕ → List Line → List (List ℕ)
 echoes_of handle ls = map (λ l. l.echo) (filter (λ l. is_on handle l.what) ls)
+
+-- for each handle from this one on, as many as there are names, the echoes of the lines on it
+abbrev pub echoes_from : ℕ → List (List ℕ) → List Line → List (List (List ℕ))
+echoes_from handle [] ls = []
+echoes_from handle (name ∷ names) ls = echoes_of handle ls ∷ echoes_from (handle + 1) names ls
+
+-- the echoes of a process's lines, handle by handle
+abbrev pub echoes_by_handle : ProcessLines → List (List (List ℕ))
+echoes_by_handle p = echoes_from 0 p.handles p.lines
