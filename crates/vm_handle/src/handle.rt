@@ -107,8 +107,8 @@ impl Handle {
         });
     }
 
-    // The command by which a call crosses, if it does.
-    fn command(&self, call: &Call) -> Option<Command>
+    /// The command by which a call crosses, if it does.
+    pub fn command(&self, call: &Call) -> Option<Command>
         requires { IsBuilt call.now }
         ensures { result ≡ asks self.now call.now }
     {
