@@ -14,6 +14,8 @@ mod source;
 mod std_sink;
 mod std_source;
 mod sure_engine;
+#[cfg(test)]
+mod tests;
 mod writing;
 
 pub use engine::Engine;
