@@ -1,5 +1,5 @@
 //! The outside of the product: where its script comes from, where its text goes, and the device's
-//! working unit. Each may fail, and counts its faults.
+//! working unit. Each may fail, and counts its faults. The rules are this project's own.
 #![tactic(auto)]
 
 mod engine;

@@ -23,6 +23,7 @@ impl<W> Model for StdSink<W> {
 }
 
 impl<W> StdSink<W> {
+    /// A sink over `writer`, with no fault yet.
     pub fn new(writer: W) -> StdSink<W>
         ensures { result ≡ record { stream = writer; faults = 0 } }
     {

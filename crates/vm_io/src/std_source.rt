@@ -23,6 +23,7 @@ impl<R> Model for StdSource<R> {
 }
 
 impl<R> StdSource<R> {
+    /// A source over `reader`, with no fault yet.
     pub fn new(reader: R) -> StdSource<R>
         ensures { result ≡ record { stream = reader; faults = 0 } }
     {
