@@ -55,3 +55,7 @@ IsInType (Bytes64 bs) = length bs ≡ 64
 abbrev pub IsLaid : ℕ → ℕ → List Field → Type 0
 IsLaid size at [] = at ≤ size
 IsLaid size at (f ∷ fs) = (at ≤ f.at) × IsInType f.value × IsLaid size (f.at + width f.value) fs
+
+-- bytes read as at most one record of a kind
+abbrev pub HasOneReading : {R : Type 0} → (R → List Field) → Type 0
+HasOneReading {R} fields = (bytes : List ℕ) (r s : R) → ReadsAs bytes (fields r) → ReadsAs bytes (fields s) → r ≡ s

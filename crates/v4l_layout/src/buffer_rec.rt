@@ -68,8 +68,9 @@ impl BufferRec {
     }
 }
 
-/// Writes the record of a buffer to the front of `out`, with zero in all its bytes that are no field's, and
-/// leaves what follows.
+/// Writes the record to the front of `out`: its fields, and zero in all its other bytes. What follows stays.
+///
+/// `Short` comes where `out` is shorter than the record, and nothing is changed then.
 pub fn write_buffer(r: &BufferRec, out: &mut [u8]) -> Result<(), Short>
     ensures short { IsErr result ↔ (length out.old < buffer_size) }
     ensures ok { OnOk result (out.new ≡ buffer_bytes r.now ++ drop buffer_size out.old) }
@@ -79,7 +80,9 @@ pub fn write_buffer(r: &BufferRec, out: &mut [u8]) -> Result<(), Short>
     write_fields(BUFFER_SIZE, &r.fields(), out)
 }
 
-/// Reads the record of a buffer from the front of `b`, whatever the bytes are that are no field's.
+/// Reads the record at the front of `b`, whatever its bytes between the fields are.
+///
+/// `Short` comes where `b` is shorter than the record.
 #[tactic(auto, unfolding(crate::specs::Records::buffer_fields))]
 pub fn read_buffer(b: &[u8]) -> Result<BufferRec, Short>
     ensures short { IsErr result ↔ (length b.now < buffer_size) }

@@ -44,8 +44,9 @@ impl Capability {
     }
 }
 
-/// Writes the record of the device and what it can do to the front of `out`, with zero in all its bytes that are no field's, and
-/// leaves what follows.
+/// Writes the record to the front of `out`: its fields, and zero in all its other bytes. What follows stays.
+///
+/// `Short` comes where `out` is shorter than the record, and nothing is changed then.
 pub fn write_capability(r: &Capability, out: &mut [u8]) -> Result<(), Short>
     ensures short { IsErr result ↔ (length out.old < capability_size) }
     ensures ok { OnOk result (out.new ≡ capability_bytes r.now ++ drop capability_size out.old) }
@@ -55,7 +56,9 @@ pub fn write_capability(r: &Capability, out: &mut [u8]) -> Result<(), Short>
     write_fields(CAPABILITY_SIZE, &r.fields(), out)
 }
 
-/// Reads the record of the device and what it can do from the front of `b`, whatever the bytes are that are no field's.
+/// Reads the record at the front of `b`, whatever its bytes between the fields are.
+///
+/// `Short` comes where `b` is shorter than the record.
 #[tactic(auto, unfolding(crate::specs::Records::capability_fields))]
 pub fn read_capability(b: &[u8]) -> Result<Capability, Short>
     ensures short { IsErr result ↔ (length b.now < capability_size) }

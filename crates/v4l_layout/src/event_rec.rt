@@ -47,8 +47,9 @@ impl EventRec {
     }
 }
 
-/// Writes the record of an event to the front of `out`, with zero in all its bytes that are no field's, and
-/// leaves what follows.
+/// Writes the record to the front of `out`: its fields, and zero in all its other bytes. What follows stays.
+///
+/// `Short` comes where `out` is shorter than the record, and nothing is changed then.
 pub fn write_event(r: &EventRec, out: &mut [u8]) -> Result<(), Short>
     ensures short { IsErr result ↔ (length out.old < event_size) }
     ensures ok { OnOk result (out.new ≡ event_bytes r.now ++ drop event_size out.old) }
@@ -58,7 +59,9 @@ pub fn write_event(r: &EventRec, out: &mut [u8]) -> Result<(), Short>
     write_fields(EVENT_SIZE, &r.fields(), out)
 }
 
-/// Reads the record of an event from the front of `b`, whatever the bytes are that are no field's.
+/// Reads the record at the front of `b`, whatever its bytes between the fields are.
+///
+/// `Short` comes where `b` is shorter than the record.
 #[tactic(auto, unfolding(crate::specs::Records::event_fields))]
 pub fn read_event(b: &[u8]) -> Result<EventRec, Short>
     ensures short { IsErr result ↔ (length b.now < event_size) }

@@ -41,8 +41,9 @@ impl FmtDesc {
     }
 }
 
-/// Writes the record of one of the formats that a queue offers to the front of `out`, with zero in all its bytes that are no field's, and
-/// leaves what follows.
+/// Writes the record to the front of `out`: its fields, and zero in all its other bytes. What follows stays.
+///
+/// `Short` comes where `out` is shorter than the record, and nothing is changed then.
 pub fn write_fmtdesc(r: &FmtDesc, out: &mut [u8]) -> Result<(), Short>
     ensures short { IsErr result ↔ (length out.old < fmtdesc_size) }
     ensures ok { OnOk result (out.new ≡ fmtdesc_bytes r.now ++ drop fmtdesc_size out.old) }
@@ -52,7 +53,9 @@ pub fn write_fmtdesc(r: &FmtDesc, out: &mut [u8]) -> Result<(), Short>
     write_fields(FMTDESC_SIZE, &r.fields(), out)
 }
 
-/// Reads the record of one of the formats that a queue offers from the front of `b`, whatever the bytes are that are no field's.
+/// Reads the record at the front of `b`, whatever its bytes between the fields are.
+///
+/// `Short` comes where `b` is shorter than the record.
 #[tactic(auto, unfolding(crate::specs::Records::fmtdesc_fields))]
 pub fn read_fmtdesc(b: &[u8]) -> Result<FmtDesc, Short>
     ensures short { IsErr result ↔ (length b.now < fmtdesc_size) }

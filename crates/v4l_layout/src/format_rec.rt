@@ -47,8 +47,9 @@ impl FormatRec {
     }
 }
 
-/// Writes the record of a queue's format, with its picture's to the front of `out`, with zero in all its bytes that are no field's, and
-/// leaves what follows.
+/// Writes the record to the front of `out`: its fields, and zero in all its other bytes. What follows stays.
+///
+/// `Short` comes where `out` is shorter than the record, and nothing is changed then.
 pub fn write_format(r: &FormatRec, out: &mut [u8]) -> Result<(), Short>
     ensures short { IsErr result ↔ (length out.old < format_size) }
     ensures ok { OnOk result (out.new ≡ format_bytes r.now ++ drop format_size out.old) }
@@ -58,7 +59,9 @@ pub fn write_format(r: &FormatRec, out: &mut [u8]) -> Result<(), Short>
     write_fields(FORMAT_SIZE, &r.fields(), out)
 }
 
-/// Reads the record of a queue's format, with its picture's from the front of `b`, whatever the bytes are that are no field's.
+/// Reads the record at the front of `b`, whatever its bytes between the fields are.
+///
+/// `Short` comes where `b` is shorter than the record.
 #[tactic(auto, unfolding(crate::specs::Records::format_fields))]
 pub fn read_format(b: &[u8]) -> Result<FormatRec, Short>
     ensures short { IsErr result ↔ (length b.now < format_size) }

@@ -35,8 +35,9 @@ impl InputRec {
     }
 }
 
-/// Writes the record of one of the device's inputs to the front of `out`, with zero in all its bytes that are no field's, and
-/// leaves what follows.
+/// Writes the record to the front of `out`: its fields, and zero in all its other bytes. What follows stays.
+///
+/// `Short` comes where `out` is shorter than the record, and nothing is changed then.
 pub fn write_input(r: &InputRec, out: &mut [u8]) -> Result<(), Short>
     ensures short { IsErr result ↔ (length out.old < input_size) }
     ensures ok { OnOk result (out.new ≡ input_bytes r.now ++ drop input_size out.old) }
@@ -46,7 +47,9 @@ pub fn write_input(r: &InputRec, out: &mut [u8]) -> Result<(), Short>
     write_fields(INPUT_SIZE, &r.fields(), out)
 }
 
-/// Reads the record of one of the device's inputs from the front of `b`, whatever the bytes are that are no field's.
+/// Reads the record at the front of `b`, whatever its bytes between the fields are.
+///
+/// `Short` comes where `b` is shorter than the record.
 #[tactic(auto, unfolding(crate::specs::Records::input_fields))]
 pub fn read_input(b: &[u8]) -> Result<InputRec, Short>
     ensures short { IsErr result ↔ (length b.now < input_size) }

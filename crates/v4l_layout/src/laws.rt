@@ -1,18 +1,9 @@
 // Laws of the definitions.
 
 ghost use Rattle.std.specs.Prelude.{◌≡◌, ◌++◌, ℕ, List, length};
-ghost use Rattle.v4l_layout.specs.Layout.{IsLaid, ReadsAs, layout_bytes};
-ghost use Rattle.v4l_layout.specs.declared.field.Field.{Field};
+ghost use Rattle.v4l_layout.specs.Layout.{HasOneReading, IsLaid, ReadsAs, layout_bytes};
 ghost use Rattle.v4l_layout.specs.Records.{capability_fields, fmtdesc_fields, format_fields, request_fields, buffer_fields, plane_fields, event_fields, subscription_fields, input_fields};
-ghost use Rattle.v4l_layout.specs.declared.capability.Capability.{Capability};
-ghost use Rattle.v4l_layout.specs.declared.fmt_desc.FmtDesc.{FmtDesc};
-ghost use Rattle.v4l_layout.specs.declared.format_rec.FormatRec.{FormatRec};
-ghost use Rattle.v4l_layout.specs.declared.request_buffers.RequestBuffers.{RequestBuffers};
-ghost use Rattle.v4l_layout.specs.declared.buffer_rec.BufferRec.{BufferRec};
-ghost use Rattle.v4l_layout.specs.declared.plane_rec.PlaneRec.{PlaneRec};
-ghost use Rattle.v4l_layout.specs.declared.event_rec.EventRec.{EventRec};
-ghost use Rattle.v4l_layout.specs.declared.subscription.Subscription.{Subscription};
-ghost use Rattle.v4l_layout.specs.declared.input_rec.InputRec.{InputRec};
+ghost use Rattle.v4l_layout.specs.declared.field.Field.{Field};
 
 /// A law of every record whose fields are laid: its bytes are as many as its size says, and they read back.
 pub fn laid_out_reads_back()
@@ -20,16 +11,16 @@ pub fn laid_out_reads_back()
     ensures reads { (size : ℕ) (fields : List Field) (behind : List ℕ) → IsLaid size 0 fields → ReadsAs (layout_bytes size fields ++ behind) fields }
 {}
 
-/// A law: bytes read as one record of each kind at most. So a reader gives back what a writer wrote.
+/// A law: bytes read as at most one record of each kind. So a reader gives back just what a writer wrote.
 #[tactic(auto, unfolding(crate::specs::Records::capability_fields, crate::specs::Records::fmtdesc_fields, crate::specs::Records::format_fields, crate::specs::Records::request_fields, crate::specs::Records::buffer_fields, crate::specs::Records::plane_fields, crate::specs::Records::event_fields, crate::specs::Records::subscription_fields, crate::specs::Records::input_fields))]
 pub fn at_most_one_reading()
-    ensures capability { (b : List ℕ) (r s : Capability) → ReadsAs b (capability_fields r) → ReadsAs b (capability_fields s) → r ≡ s }
-    ensures fmtdesc { (b : List ℕ) (r s : FmtDesc) → ReadsAs b (fmtdesc_fields r) → ReadsAs b (fmtdesc_fields s) → r ≡ s }
-    ensures format { (b : List ℕ) (r s : FormatRec) → ReadsAs b (format_fields r) → ReadsAs b (format_fields s) → r ≡ s }
-    ensures request { (b : List ℕ) (r s : RequestBuffers) → ReadsAs b (request_fields r) → ReadsAs b (request_fields s) → r ≡ s }
-    ensures buffer { (b : List ℕ) (r s : BufferRec) → ReadsAs b (buffer_fields r) → ReadsAs b (buffer_fields s) → r ≡ s }
-    ensures plane { (b : List ℕ) (r s : PlaneRec) → ReadsAs b (plane_fields r) → ReadsAs b (plane_fields s) → r ≡ s }
-    ensures event { (b : List ℕ) (r s : EventRec) → ReadsAs b (event_fields r) → ReadsAs b (event_fields s) → r ≡ s }
-    ensures subscription { (b : List ℕ) (r s : Subscription) → ReadsAs b (subscription_fields r) → ReadsAs b (subscription_fields s) → r ≡ s }
-    ensures input { (b : List ℕ) (r s : InputRec) → ReadsAs b (input_fields r) → ReadsAs b (input_fields s) → r ≡ s }
+    ensures capability { HasOneReading capability_fields }
+    ensures fmtdesc { HasOneReading fmtdesc_fields }
+    ensures format { HasOneReading format_fields }
+    ensures request { HasOneReading request_fields }
+    ensures buffer { HasOneReading buffer_fields }
+    ensures plane { HasOneReading plane_fields }
+    ensures event { HasOneReading event_fields }
+    ensures subscription { HasOneReading subscription_fields }
+    ensures input { HasOneReading input_fields }
 {}

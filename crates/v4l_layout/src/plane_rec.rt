@@ -38,8 +38,9 @@ impl PlaneRec {
     }
 }
 
-/// Writes the record of one plane of a buffer to the front of `out`, with zero in all its bytes that are no field's, and
-/// leaves what follows.
+/// Writes the record to the front of `out`: its fields, and zero in all its other bytes. What follows stays.
+///
+/// `Short` comes where `out` is shorter than the record, and nothing is changed then.
 pub fn write_plane(r: &PlaneRec, out: &mut [u8]) -> Result<(), Short>
     ensures short { IsErr result ↔ (length out.old < plane_size) }
     ensures ok { OnOk result (out.new ≡ plane_bytes r.now ++ drop plane_size out.old) }
@@ -49,7 +50,9 @@ pub fn write_plane(r: &PlaneRec, out: &mut [u8]) -> Result<(), Short>
     write_fields(PLANE_SIZE, &r.fields(), out)
 }
 
-/// Reads the record of one plane of a buffer from the front of `b`, whatever the bytes are that are no field's.
+/// Reads the record at the front of `b`, whatever its bytes between the fields are.
+///
+/// `Short` comes where `b` is shorter than the record.
 #[tactic(auto, unfolding(crate::specs::Records::plane_fields))]
 pub fn read_plane(b: &[u8]) -> Result<PlaneRec, Short>
     ensures short { IsErr result ↔ (length b.now < plane_size) }

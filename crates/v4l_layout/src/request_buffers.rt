@@ -38,8 +38,9 @@ impl RequestBuffers {
     }
 }
 
-/// Writes the record of how many buffers a queue shall have to the front of `out`, with zero in all its bytes that are no field's, and
-/// leaves what follows.
+/// Writes the record to the front of `out`: its fields, and zero in all its other bytes. What follows stays.
+///
+/// `Short` comes where `out` is shorter than the record, and nothing is changed then.
 pub fn write_request(r: &RequestBuffers, out: &mut [u8]) -> Result<(), Short>
     ensures short { IsErr result ↔ (length out.old < request_size) }
     ensures ok { OnOk result (out.new ≡ request_bytes r.now ++ drop request_size out.old) }
@@ -49,7 +50,9 @@ pub fn write_request(r: &RequestBuffers, out: &mut [u8]) -> Result<(), Short>
     write_fields(REQUEST_SIZE, &r.fields(), out)
 }
 
-/// Reads the record of how many buffers a queue shall have from the front of `b`, whatever the bytes are that are no field's.
+/// Reads the record at the front of `b`, whatever its bytes between the fields are.
+///
+/// `Short` comes where `b` is shorter than the record.
 #[tactic(auto, unfolding(crate::specs::Records::request_fields))]
 pub fn read_request(b: &[u8]) -> Result<RequestBuffers, Short>
     ensures short { IsErr result ↔ (length b.now < request_size) }

@@ -35,8 +35,9 @@ impl Subscription {
     }
 }
 
-/// Writes the record of which events are wanted to the front of `out`, with zero in all its bytes that are no field's, and
-/// leaves what follows.
+/// Writes the record to the front of `out`: its fields, and zero in all its other bytes. What follows stays.
+///
+/// `Short` comes where `out` is shorter than the record, and nothing is changed then.
 pub fn write_subscription(r: &Subscription, out: &mut [u8]) -> Result<(), Short>
     ensures short { IsErr result ↔ (length out.old < subscription_size) }
     ensures ok { OnOk result (out.new ≡ subscription_bytes r.now ++ drop subscription_size out.old) }
@@ -46,7 +47,9 @@ pub fn write_subscription(r: &Subscription, out: &mut [u8]) -> Result<(), Short>
     write_fields(SUBSCRIPTION_SIZE, &r.fields(), out)
 }
 
-/// Reads the record of which events are wanted from the front of `b`, whatever the bytes are that are no field's.
+/// Reads the record at the front of `b`, whatever its bytes between the fields are.
+///
+/// `Short` comes where `b` is shorter than the record.
 #[tactic(auto, unfolding(crate::specs::Records::subscription_fields))]
 pub fn read_subscription(b: &[u8]) -> Result<Subscription, Short>
     ensures short { IsErr result ↔ (length b.now < subscription_size) }
