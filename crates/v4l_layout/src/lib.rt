@@ -17,6 +17,7 @@ mod read;
 mod request_buffers;
 mod short;
 mod subscription;
+mod text;
 mod write;
 
 pub use buffer_rec::{BUFFER_SIZE, BufferRec, read_buffer, write_buffer};
@@ -31,6 +32,7 @@ pub use plane_rec::{PLANE_SIZE, PlaneRec, read_plane, write_plane};
 pub use request_buffers::{REQUEST_SIZE, RequestBuffers, read_request, write_request};
 pub use short::Short;
 pub use subscription::{SUBSCRIPTION_SIZE, Subscription, read_subscription, write_subscription};
+pub use text::padded;
 pub use write::write_fields;
 
 #[cfg(test)]

@@ -178,6 +178,13 @@ fn buffers(rt: HostRuntime) -> Result<(), Fail> {
 }
 
 #[test]
+fn texts(rt: HostRuntime) -> Result<(), Fail> {
+    assert!(rt; padded::<6>("ab") == *b"ab\0\0\0\0");
+    assert!(rt; padded::<2>("ab") == *b"ab");
+    Ok(())
+}
+
+#[test]
 fn events_and_inputs(rt: HostRuntime) -> Result<(), Fail> {
     let event = EventRec {
         kind: 0x8483_8281,
