@@ -9,7 +9,7 @@ mod store;
 
 pub use guest_memory::{AddError, GuestMemory};
 pub use memory::Memory;
-pub use page::{PAGE_SIZE, Page};
+pub use page::{PAGE_SIZE, Page, lies_in_page};
 pub use store::Store;
 
 #[cfg(test)]

@@ -1,4 +1,5 @@
 ghost use Rattle.std.specs.Prelude.{◌≡◌, ◌+◌, ◌<◌, ◌≤◌, ◌++◌, List, ℕ, length, take, drop, replicate, slice_index, slice_set, IfOk};
+ghost use Rattle.vm_mem.specs.Page.{lies_in_page};
 
 use crate::page_bytes::PageBytes;
 use crate::{Memory, Store};
@@ -61,4 +62,13 @@ impl Store for Page {
     fn copy_in(&mut self, at: u32, from: &[u8]) {
         self.bytes.copy_in(at as usize, from);
     }
+}
+
+/// Whether the `len` bytes from the address `start` on lie in the page with this number: they begin in it, and don't go past
+/// its end.
+pub fn lies_in_page(start: u64, len: u32, number: u64) -> bool
+    ensures { result ≡ lies_in_page start len number }
+{
+    let page_size = u64::from(PAGE_SIZE);
+    number == start / page_size && start % page_size + u64::from(len) <= page_size
 }
