@@ -36,7 +36,11 @@ impl Page {
 }
 
 impl Store for Page {
+    ghost Rest = { ℕ };
+
     ghost bytes_of = { λ page. page.bytes };
+
+    ghost rest_of = { λ page. page.number };
 
     fn size(&self) -> u32
         ensures value { result ≡ length self.now.bytes }

@@ -41,7 +41,11 @@ struct Word {
 }
 
 impl Store for Word {
+    ghost Rest = { Unit {0} };
+
     ghost bytes_of = { λ word. word.bytes };
+
+    ghost rest_of = { λ _. tt };
 
     fn size(&self) -> u32 {
         4
