@@ -2,11 +2,13 @@
 #![tactic(auto)]
 
 mod carried;
+mod codes;
 mod colours;
 mod component;
 mod fmt;
 mod format_row;
 mod formats;
+mod laws;
 mod levels;
 mod pattern;
 mod patterns;
@@ -22,6 +24,7 @@ pub use component::Component;
 pub use fmt::Fmt;
 pub use format_row::FormatRow;
 pub use formats::nth_format;
+pub use laws::{adjusting_gives_adjusted_formats_back, converting_to_the_same_format_copies};
 pub use pattern::Pattern;
 pub use picture::{converted_byte, pattern_byte};
 pub use sample_order::SampleOrder;

@@ -10,7 +10,7 @@ use crate::formats::order_of;
 use crate::sample_order::SampleOrder;
 
 /// What byte `i` of a picture of this format carries.
-#[tactic(auto, using(crate::proofs::SizeLemmas::area_most))]
+#[tactic(auto, using(crate::proofs::FmtLemmas::area_most))]
 pub fn carried_at(f: &Fmt, i: u32) -> Carried
     requires adjusted { IsAdjusted f.now }
     requires place { i < picture_size f.now }
@@ -55,7 +55,7 @@ pub fn carried_at(f: &Fmt, i: u32) -> Carried
 }
 
 /// The number of the pixel at (`x`, `y`), counted along the lines.
-#[tactic(auto, using(crate::proofs::SizeLemmas::area_most, std::proofs::lemmas::Nat::rows))]
+#[tactic(auto, using(crate::proofs::FmtLemmas::area_most, std::proofs::lemmas::Nat::rows))]
 pub fn pixel_number(f: &Fmt, x: u32, y: u32) -> u32
     requires adjusted { IsAdjusted f.now }
     requires across { x < f.now.width }
@@ -67,7 +67,7 @@ pub fn pixel_number(f: &Fmt, x: u32, y: u32) -> u32
 }
 
 /// The number of the pair of pixels in which (`x`, `y`) lies.
-#[tactic(auto, using(crate::proofs::SizeLemmas::area_most, std::proofs::lemmas::Nat::rows, crate::proofs::CarriedLemmas::pair_area))]
+#[tactic(auto, using(crate::proofs::FmtLemmas::area_most, std::proofs::lemmas::Nat::rows, crate::proofs::CarriedLemmas::pair_area))]
 pub fn pair_number(f: &Fmt, x: u32, y: u32) -> u32
     requires adjusted { IsAdjusted f.now }
     requires across { x < f.now.width }
@@ -79,7 +79,7 @@ pub fn pair_number(f: &Fmt, x: u32, y: u32) -> u32
 }
 
 /// The number of the square of two by two pixels in which (`x`, `y`) lies.
-#[tactic(auto, using(crate::proofs::SizeLemmas::area_most, std::proofs::lemmas::Nat::rows, crate::proofs::CarriedLemmas::square_area))]
+#[tactic(auto, using(crate::proofs::FmtLemmas::area_most, std::proofs::lemmas::Nat::rows, crate::proofs::CarriedLemmas::square_area))]
 pub fn square_number(f: &Fmt, x: u32, y: u32) -> u32
     requires adjusted { IsAdjusted f.now }
     requires across { x < f.now.width }
