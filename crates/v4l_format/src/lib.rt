@@ -30,3 +30,6 @@ pub use picture::{converted_byte, pattern_byte};
 pub use sample_order::SampleOrder;
 pub use sizes::{adjust, bytesperline, sizeimage};
 pub use triple::Triple;
+
+#[cfg(test)]
+mod tests;
