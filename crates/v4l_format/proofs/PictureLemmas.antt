@@ -29,6 +29,9 @@ pub slice_index-converted_picture : (from : Fmt) (bytes : List ℕ) (to : Fmt) (
 unfolding converted_picture
 slice_index-converted_picture from bytes to i low = get_or-map-range_with_len (converted_byte_at from bytes to) 0 (picture_size to) i i 0 low (omega arith)
 
+-- these, for upper crates' proofs
+pub ruleset pictures = (length-pattern_picture, length-converted_picture, slice_index-pattern_picture, slice_index-converted_picture)
+
 -- the colours of one format need no turning
 same_colours : (o : SampleOrder) (t : Triple) → turned (colours_of o) (colours_of o) t ≡ t
 same_colours Grey t = refl

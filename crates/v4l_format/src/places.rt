@@ -32,20 +32,19 @@ pub fn carried_at(f: &Fmt, i: u32) -> Carried
             2 => Carried::of_pair(width, i / 4, 0, Component::Cr),
             _ => Carried::of_pair(width, i / 4, 1, Component::Y),
         },
-        SampleOrder::Nv12 if i < pixels => Carried::of_pixel(width, i, Component::Y),
-        SampleOrder::Nv12 if (i - pixels) % 2 == 0 => Carried::of_square(
+        SampleOrder::Nv12 | SampleOrder::Yu12 if i < pixels => Carried::of_pixel(
             width,
-            (i - pixels) / 2,
-            Component::Cb,
+            i,
+            Component::Y,
         ),
-        SampleOrder::Nv12 => Carried::of_square(width, (i - pixels) / 2, Component::Cr),
-        SampleOrder::Yu12 if i < pixels => Carried::of_pixel(width, i, Component::Y),
-        SampleOrder::Yu12 if i - pixels < pixels / 4 => Carried::of_square(
-            width,
-            i - pixels,
-            Component::Cb,
-        ),
-        SampleOrder::Yu12 => Carried::of_square(width, i - pixels - pixels / 4, Component::Cr),
+        SampleOrder::Nv12 => match (i - pixels) % 2 {
+            0 => Carried::of_square(width, (i - pixels) / 2, Component::Cb),
+            _ => Carried::of_square(width, (i - pixels) / 2, Component::Cr),
+        },
+        SampleOrder::Yu12 => match (i - pixels).checked_sub(pixels / 4) {
+            None => Carried::of_square(width, i - pixels, Component::Cb),
+            Some(n) => Carried::of_square(width, n, Component::Cr),
+        },
         SampleOrder::Rgb3 => match i % 3 {
             0 => Carried::of_pixel(width, i / 3, Component::R),
             1 => Carried::of_pixel(width, i / 3, Component::G),
