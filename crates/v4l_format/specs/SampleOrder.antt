@@ -1,6 +1,6 @@
 -- How the samples of a picture of w by h pixels lie in its bytes. Rows run from the top and pixels
 -- from the left, without gaps; w and h are even. Source: the Linux V4L2 pixel formats of these names.
-use Rattle.std.specs.Prelude.{ℕ, ◌+◌, ◌-◌, ◌*◌, ◌/◌, ◌%◌, ◌==◌, if◌then◌else◌, nat_lt, List, slice_index}
+use Rattle.std.specs.Prelude.{ℕ, ◌<◌, ◌+◌, ◌-◌, ◌*◌, ◌/◌, ◌%◌, ◌==◌, if◌then◌else◌, nat_lt, List, slice_index}
 use Rattle.v4l_format.specs.declared.carried.Carried.{Carried}
 use Rattle.v4l_format.specs.declared.colours.Colours.{Colours}
 use Rattle.v4l_format.specs.declared.colours.Colours.TheVariants.{Ycbcr, Rgb}
@@ -71,7 +71,13 @@ carried_by Rgb3 w h i =
     if i % 3 == 0 then of_pixel w (i / 3) R else (
     if i % 3 == 1 then of_pixel w (i / 3) G else of_pixel w (i / 3) B)
 
--- the number of the pixel at (x, y), of its pair, and of its square
+-- the pixel that is carried lies in a picture of w by h pixels
+pub record IsWithin (w h : ℕ) (carried : Carried) : Type 0 where
+  pub across : carried.x < w
+  pub down : carried.y < h
+
+-- the number of the pixel at (x, y), of the pair, and of the square in which it lies, each counted along
+-- the lines
 abbrev pub pixel_number : ℕ → ℕ → ℕ → ℕ
 pixel_number w x y = y * w + x
 
@@ -84,7 +90,8 @@ square_number w x y = y / 2 * (w / 2) + x / 2
 abbrev pub triple : ℕ → ℕ → ℕ → Triple
 triple a b c = record { 0 = a; 1 = b; 2 = c }
 
--- the pixel at (x, y) of a picture
+-- the pixel at (x, y) of a picture: its Y with the Cb and the Cr of its pair or square, or its red, green
+-- and blue
 abbrev pub pixel_in : SampleOrder → ℕ → ℕ → List ℕ → ℕ → ℕ → Triple
 pixel_in Grey w h bytes x y = triple (slice_index bytes (pixel_number w x y)) 128 128
 pixel_in Yuyv w h bytes x y =
