@@ -1,0 +1,15 @@
+pub mod AgreeLemmas
+pub mod DigestLemmas
+pub mod EchoLemmas
+pub mod IssueLemmas
+pub mod LineLemmas
+pub mod LinesLemmas
+pub mod NumberLemmas
+pub mod OrderlyLemmas
+pub mod PrinterLemmas
+pub mod ReaderLemmas
+pub mod RunLemmas
+pub mod ScriptLemmas
+pub mod SeatLemmas
+pub mod WordLemmas
+pub mod WorldLemmas

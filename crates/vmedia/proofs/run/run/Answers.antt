@@ -1,0 +1,32 @@
+use Rattle.std.proofs.Common.{◌≡◌, List, [], ◌∷◌, ◌++◌, subst, sym, ap, ◌∙◌, Vec, ℕ, Global}
+use Rattle.std.specs.Option.{option_to_list}
+use Rattle.v4l_const.specs.declared.model.Model.TheVariants.{Capture}
+use Rattle.v4l_const.specs.declared.model.Model.{Model}
+use Rattle.vm_script.specs.Script.{ProcessLines, ScriptLines}
+use Rattle.vmedia.specs.Reading.{IsReadProcess}
+use Rattle.vmedia.specs.Run.{IsRun, IsRunOf}
+use Rattle.vmedia.proofs.ScriptLemmas.{read_process}
+use Rattle.vmedia.proofs.RunLemmas.{only_process, ok_weaken}
+use Rattle.vmedia.proofs.run.run.Goals as goal
+
+pub run_process-requires : goal.run_process-requires
+run_process-requires c =
+    let found = read_process c.requires.0 c.args.script c.requires.1 in
+    let one : c.args.script.processes ≡ found.0 ∷ [] = ap (λ s. s.processes) found.1 in
+    let popped : c.args.script.processes ≡ c.pop.new.self.items ++ c.unwrap-process.result ∷ [] =
+      sym (ap (λ s. s.processes) c.script.view_is) ∙ c.pop.ensures.items ∙ ap (λ o. c.pop.new.self.items ++ option_to_list o) c.unwrap-process.ensures in
+    let same : c.unwrap-process.result ≡ found.0 = only_process c.args.script.processes found.0 c.unwrap-process.result c.pop.new.self.items one popped in
+    subst IsReadProcess (sym same) found.2
+
+pub returns : goal.returns
+returns c =
+    let found = read_process c.requires.0 c.args.script c.requires.1 in
+    let one : c.args.script.processes ≡ found.0 ∷ [] = ap (λ s. s.processes) found.1 in
+    let popped : c.args.script.processes ≡ c.pop.new.self.items ++ c.unwrap-process.result ∷ [] =
+      sym (ap (λ s. s.processes) c.script.view_is) ∙ c.pop.ensures.items ∙ ap (λ o. c.pop.new.self.items ++ option_to_list o) c.unwrap-process.ensures in
+    let same : c.unwrap-process.result ≡ found.0 = only_process c.args.script.processes found.0 c.unwrap-process.result c.pop.new.self.items one popped in
+    let model : c.args.script.model ≡ Capture = ap (λ s. s.model) found.1 in
+    ok_weaken {A = Vec ℕ Global} _ (λ text. IsRunOf Capture c.unwrap-process.result text.items) (λ text. IsRun c.args.script text.items) (λ (text : Vec ℕ Global). λ runs.
+      (let P : Model → Type 0 = λ m. IsRunOf m found.0 text.items in
+       let Q : ProcessLines → Type 0 = λ p. IsRunOf Capture p text.items in
+       (found.0, one, subst P (sym model) (subst Q same runs)))) c.run_process.ensures

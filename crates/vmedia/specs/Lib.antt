@@ -1,0 +1,11 @@
+pub mod Asking
+pub mod Command
+pub mod Echoes
+pub mod Guest
+pub mod Orderly
+pub mod Printing
+pub mod Reading
+pub mod Run
+pub mod Schedule
+pub mod Top
+pub mod World
