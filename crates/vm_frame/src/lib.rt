@@ -1,0 +1,12 @@
+//! The memory of buffers: frames, and users' memory that lies scattered over pages.
+#![tactic(auto)]
+
+mod frame;
+mod gather;
+mod page_parts;
+mod scatter;
+mod user;
+
+pub use frame::{Frame, Range};
+pub use scatter::{SgEntry, SgFault};
+pub use user::{MAX_ENTRIES, MAX_PAGES, User};
