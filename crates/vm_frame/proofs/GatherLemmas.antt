@@ -1,5 +1,5 @@
 -- One step of the loops over the entries of a scatter list.
-use Rattle.std.proofs.Common.{◌≡◌, ℕ, ◌+◌, ◌-◌, ◌<◌, ◌≤◌, ◌++◌, ◌∙◌, List, [], length, get_or, take, drop, map, min, All, ⊎_elim, add-zero, refl, sym, ap, arith, rules}
+use Rattle.std.proofs.Common.{◌≡◌, ℕ, ◌+◌, ◌-◌, ◌<◌, ◌≤◌, ◌∙◌, List, length, get_or, take, drop, map, min, All, ⊎_elim, add-zero, refl, sym, ap, arith, rules}
 use Rattle.std.specs.List.{flat_map}
 use Rattle.std.proofs.lemmas.Bool.{cases_lt}
 use Rattle.std.proofs.lemmas.List.{length-map, places}
@@ -30,10 +30,10 @@ pub next_bytes : (mem : ℕ → List ℕ) (es : List SgEntry) (k : ℕ) (d : SgE
     → take count (drop skip (range mem (get_or es k d))) ≡ take count (drop (at + done) (flat_map (range mem) es))
 next_bytes mem es k d at ahead done skip count left fits within skipped counted place = ⊎_elim
     (λ (inside : ahead < (get_or es k d).len).
-        let here : total (take k es) + skip ≡ at + done = omega arith in
-        rw (← here) (read_at mem es k d skip count fits within (omega arith)))
+    let here : total (take k es) + skip ≡ at + done = omega arith in
+    rw (← here) (read_at mem es k d skip count fits within (omega arith)))
     (λ (outside : (get_or es k d).len ≤ ahead).
-        let none : count ≡ 0 = omega arith in rw none refl)
+    let none : count ≡ 0 = omega arith in rw none refl)
     (cases_lt ahead (get_or es k d).len)
 
 -- pages that keep their numbers and their sizes keep the list sound
@@ -41,12 +41,12 @@ pub sound_kept : (entries : List SgEntry) (old new : List Page) → IsSound entr
     → map (λ page. page.number) new ≡ map (λ page. page.number) old → All (λ page. length page.bytes ≡ 4096) new → IsSound entries new
 sound_kept entries old new sound numbers whole =
     let count : length new ≡ length old =
-        sym (length-map new (λ (page : Page). page.number)) ∙ ap length numbers ∙ length-map old (λ (page : Page). page.number) in
+    sym (length-map new (λ (page : Page). page.number)) ∙ ap length numbers ∙ length-map old (λ (page : Page). page.number) in
     record {
-        no_fault = rw numbers sound.no_fault;
-        few_entries = sound.few_entries;
-        few_pages = rw count sound.few_pages;
-        whole = whole;
+      no_fault = rw numbers sound.no_fault;
+      few_entries = sound.few_entries;
+      few_pages = rw count sound.few_pages;
+      whole = whole;
     }
 
 -- what is written to the entry in place k is what comes next
@@ -59,12 +59,12 @@ next_write numbers old new es k d at ahead done skip count from b sound fits wit
     let whole : count ≡ length (take count (drop done from)) = search (rules, places) in
     let written = written_at numbers old new es k d skip (take count (drop done from)) count sound fits within whole (omega arith) writes in
     ⊎_elim
-        (λ (inside : ahead < (get_or es k d).len).
-            let here : total (take k es) + skip ≡ at + done = omega arith in
-            let step = paste_step b at from done count (omega arith) room in
-            written ∙ rw (here, so_far) step)
-        (λ (outside : (get_or es k d).len ≤ ahead).
-            let none : count ≡ 0 = omega arith in
-            let nothing = rw none at written in
-            rw (none, add-zero) (nothing ∙ sym (paste_none (flat_map (range old) es) (total (take k es) + skip) (take 0 (drop done from))) ∙ so_far))
-        (cases_lt ahead (get_or es k d).len)
+    (λ (inside : ahead < (get_or es k d).len).
+    let here : total (take k es) + skip ≡ at + done = omega arith in
+    let step = paste_step b at from done count (omega arith) room in
+    written ∙ rw (here, so_far) step)
+    (λ (outside : (get_or es k d).len ≤ ahead).
+    let none : count ≡ 0 = omega arith in
+    let nothing = rw none at written in
+    rw (none, add-zero) (nothing ∙ sym (paste_none (flat_map (range old) es) (total (take k es) + skip) (take 0 (drop done from))) ∙ so_far))
+    (cases_lt ahead (get_or es k d).len)

@@ -1,5 +1,5 @@
 -- The page with a number among several pages: the first one, behind those with other numbers.
-use Rattle.std.proofs.Common.{◌≡◌, ◌≢◌, ℕ, zero, suc, ◌<◌, ◌≤◌, ◌==◌, ◌∙◌, not, List, [], ◌∷◌, length, get_or, set, map, All, refl, sym, ap, arith}
+use Rattle.std.proofs.Common.{◌≡◌, ◌≢◌, ℕ, zero, suc, ◌<◌, ◌≤◌, ◌==◌, not, List, [], ◌∷◌, length, get_or, set, map, refl, arith}
 use Rattle.std.specs.Prelude.{take_while}
 use Rattle.std.proofs.lemmas.Grind.{common_steps}
 use Rattle.std.proofs.lemmas.Bool.Decides.{nat_tests}
@@ -13,8 +13,8 @@ pub found : (pages : List Page) (number : ℕ) (d : Page) → place_of pages num
     → (page_bytes pages number ≡ (get_or pages (place_of pages number) d).bytes) × ((get_or pages (place_of pages number) d).number ≡ number)
 found [] number d there = absurd (omega arith)
 found (page ∷ pages) number d there = (
-    grind (arith, nat_tests, common_steps, found pages number d),
-    grind (arith, nat_tests, common_steps, found pages number d),
+  grind (arith, nat_tests, common_steps, found pages number d),
+  grind (arith, nat_tests, common_steps, found pages number d),
 )
 
 pub missing : (pages : List Page) (number : ℕ) → length pages ≤ place_of pages number → page_bytes pages number ≡ []

@@ -1,7 +1,7 @@
 -- A run of bytes written over a part of a list, and what a part of the list or of a longer one then holds.
-use Rattle.std.proofs.Common.{◌≡◌, ℕ, ◌+◌, ◌<◌, ◌≤◌, ◌++◌, List, [], length, get_or, take, drop, arith, rules}
+use Rattle.std.proofs.Common.{◌≡◌, ℕ, ◌+◌, ◌≤◌, ◌++◌, List, [], length, take, drop, arith, rules}
 use Rattle.std.proofs.Math.Seq.{paste}
-use Rattle.std.proofs.lemmas.List.{places, same_lists, take_at, drop_at}
+use Rattle.std.proofs.lemmas.List.{places, same_lists}
 
 -- within a part of the list
 pub paste_within : (b : List ℕ) (start len skip : ℕ) (s : List ℕ) (n : ℕ) → n ≡ length s → skip + n ≤ len → start + len ≤ length b

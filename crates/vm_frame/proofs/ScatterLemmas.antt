@@ -1,6 +1,6 @@
 -- What a scatter list without a fault names, and what a write within one of its entries changes.
 -- `mem` stands for the bytes of the page with a number.
-use Rattle.std.proofs.Common.{◌≡◌, ◌≢◌, ℕ, zero, suc, ◌+◌, ◌-◌, ◌*◌, ◌/◌, ◌%◌, ◌^◌, ◌<◌, ◌≤◌, ◌⊎◌, ◌∙◌, ◌==◌, Bool, true, false, not, if◌then◌else◌, List, [], ◌∷◌, ◌++◌, length, get_or, take, drop, map, All, filter, sum_by, Option, None, Some, zero-add, refl, sym, ap, inl, inr, ⊎_elim, arith, rules}
+use Rattle.std.proofs.Common.{◌≡◌, ◌≢◌, ℕ, zero, suc, ◌+◌, ◌*◌, ◌^◌, ◌<◌, ◌≤◌, ◌⊎◌, ◌∙◌, ◌==◌, Bool, true, false, not, if◌then◌else◌, List, [], ◌∷◌, ◌++◌, length, get_or, take, drop, map, All, sum_by, Option, None, Some, zero-add, refl, sym, ap, inl, inr, ⊎_elim, arith, rules}
 use Rattle.std.specs.List.{flat_map, list_any}
 use Rattle.std.specs.Option.{option_or}
 use Rattle.std.proofs.lemmas.Grind.{common_steps}
@@ -12,13 +12,12 @@ use Rattle.std.proofs.lemmas.List.Folds.{list_any-append}
 use Rattle.vm_mem.specs.Page.{page_number, place_in_page, lies_in_page}
 use Rattle.vm_mem.specs.declared.page.Page.{Page}
 use Rattle.vm_frame.specs.declared.scatter.SgEntry.{SgEntry}
-use Rattle.vm_frame.specs.declared.scatter.SgFault.{SgFault}
 use Rattle.vm_frame.specs.declared.scatter.SgFault.TheVariants.{Outside, ZeroLen, Twice}
 use Rattle.std.proofs.Math.Seq.{paste}
 use Rattle.std.proofs.lemmas.Bool.{cases_lt, cases_eq}
 use Rattle.vm_frame.proofs.PasteLemmas.{paste_within, paste_behind, paste_before, paste_front, paste_back, read_front, read_back}
 use Rattle.vm_frame.specs.User.{IsSound}
-use Rattle.vm_frame.specs.Scatter.{page_bytes, entry_bytes, scatter_bytes, meets, entry_fault, first_fault, scatter_fault}
+use Rattle.vm_frame.specs.Scatter.{page_bytes, scatter_bytes, meets, entry_fault, first_fault}
 
 -- e has no address in common with later entries
 abbrev pub IsApart : SgEntry → List SgEntry → Type 0
@@ -52,22 +51,20 @@ later_apart numbers earlier [] e xs ys is none = tt
 later_apart numbers earlier (f ∷ fs) e xs ys is none =
     let parts = first_none (entry_fault numbers earlier f) (first_fault numbers (earlier ++ f ∷ []) fs) none in
     let fine = entry_fine numbers earlier f parts.0 in
-    let among : list_any (meets f) (xs ++ e ∷ ys) ≡ false = rw (← is) fine.1 in
-    (
-        grind (arith, common_steps, list_any-append (meets f) xs (e ∷ ys)),
-        later_apart numbers (earlier ++ f ∷ []) fs e xs (ys ++ f ∷ []) (rw (is, append_assoc) refl) parts.1,
+    let among : list_any (meets f) (xs ++ e ∷ ys) ≡ false = rw (← is) fine.1 in (
+      grind (arith, common_steps, list_any-append (meets f) xs (e ∷ ys)),
+      later_apart numbers (earlier ++ f ∷ []) fs e xs (ys ++ f ∷ []) (rw (is, append_assoc) refl) parts.1,
     )
 
 pub sound_from_none : (numbers : List ℕ) (earlier es : List SgEntry) → first_fault numbers earlier es ≡ None → AreSound numbers es
 sound_from_none numbers earlier [] none = tt
 sound_from_none numbers earlier (e ∷ es) none =
-    let parts = first_none (entry_fault numbers earlier e) (first_fault numbers (earlier ++ e ∷ []) es) none in
-    (
-        (entry_fine numbers earlier e parts.0).0,
-        (
-            later_apart numbers (earlier ++ e ∷ []) es e earlier [] refl parts.1,
-            sound_from_none numbers (earlier ++ e ∷ []) es parts.1,
-        ),
+    let parts = first_none (entry_fault numbers earlier e) (first_fault numbers (earlier ++ e ∷ []) es) none in (
+      (entry_fine numbers earlier e parts.0).0,
+      (
+        later_apart numbers (earlier ++ e ∷ []) es e earlier [] refl parts.1,
+        sound_from_none numbers (earlier ++ e ∷ []) es parts.1,
+      ),
     )
 
 -- where an entry lies in one of the pages, its page is there, and it ends in it
@@ -75,8 +72,8 @@ lies_in_one : (start len : ℕ) (numbers : List ℕ) → list_any (lies_in_page 
     → (list_any (λ n. n == page_number start) numbers ≡ true) × (place_in_page start + len ≤ 4096)
 lies_in_one start len [] lies = cc
 lies_in_one start len (n ∷ ns) lies = (
-    grind (arith, nat_tests, common_steps, lies_in_one start len ns),
-    grind (arith, nat_tests, common_steps, lies_in_one start len ns),
+  grind (arith, nat_tests, common_steps, lies_in_one start len ns),
+  grind (arith, nat_tests, common_steps, lies_in_one start len ns),
 )
 
 -- a page that is there is whole
@@ -113,9 +110,9 @@ pub record Writes (old new : ℕ → List ℕ) (number at : ℕ) (s : List ℕ) 
 apart_cases : (e f : SgEntry) → meets e f ≡ false → (f.start + f.len ≤ e.start) ⊎ (e.start + e.len ≤ f.start)
 apart_cases e f apart = ⊎_elim
     (λ (less : e.start < f.start + f.len). ⊎_elim
-        (λ (both : f.start < e.start + e.len). absurd (grind (arith, nat_tests, common_steps)))
-        (λ (behind : e.start + e.len ≤ f.start). inr behind)
-        (cases_lt f.start (e.start + e.len)))
+    (λ (both : f.start < e.start + e.len). absurd (grind (arith, nat_tests, common_steps)))
+    (λ (behind : e.start + e.len ≤ f.start). inr behind)
+    (cases_lt f.start (e.start + e.len)))
     (λ (before : f.start + f.len ≤ e.start). inl before)
     (cases_lt e.start (f.start + f.len))
 
@@ -127,11 +124,11 @@ same_range : (old new : ℕ → List ℕ) (e f : SgEntry) (skip : ℕ) (s : List
     → (f.start + f.len ≤ e.start) ⊎ (e.start + e.len ≤ f.start) → range new f ≡ range old f
 same_range old new e f skip s n whole within writes e_fits f_fits apart = ⊎_elim
     (λ (same : page_number f.start ≡ page_number e.start). rw (same, writes.here) (⊎_elim
-        (λ (before : f.start + f.len ≤ e.start).
-            paste_behind (old (page_number e.start)) (place_in_page f.start) f.len (place_in_page e.start + skip) s n whole (omega arith) (omega arith))
-        (λ (behind : e.start + e.len ≤ f.start).
-            ap (take f.len) (paste_before (old (page_number e.start)) (place_in_page f.start) (place_in_page e.start + skip) s n whole (omega arith) (omega arith)))
-        apart))
+    (λ (before : f.start + f.len ≤ e.start).
+    paste_behind (old (page_number e.start)) (place_in_page f.start) f.len (place_in_page e.start + skip) s n whole (omega arith) (omega arith))
+    (λ (behind : e.start + e.len ≤ f.start).
+    ap (take f.len) (paste_before (old (page_number e.start)) (place_in_page f.start) (place_in_page e.start + skip) s n whole (omega arith) (omega arith)))
+    apart))
     (λ (apart_pages : page_number f.start ≢ page_number e.start). rw (writes.others (page_number f.start) apart_pages) refl)
     (cases_eq (page_number f.start) (page_number e.start))
 
@@ -198,12 +195,12 @@ written_at numbers old new (e ∷ es) zero d skip s n sound fits within whole en
 written_at numbers old new (e ∷ es) (suc k) d skip s n sound fits within whole ends writes =
     let size = length-range old e fits.0 in
     let same = same_range old new (get_or es k d) e skip s n whole ends writes (at_fits old es k (omega arith) d fits.1) fits.0
-        (apart_cases (get_or es k d) e (at_apart e es k (omega arith) d sound.1.0)) in
+    (apart_cases (get_or es k d) e (at_apart e es k (omega arith) d sound.1.0)) in
     let rest = written_at numbers old new es k d skip s n sound.1.1 fits.1 (omega arith) whole ends writes in
     let inside : total (take k es) + skip + n ≤ length (flat_map (range old) es) =
-        omega (arith, length-scatter old es fits.1, sum_by_more_le (λ (e : SgEntry). e.len) es k d (omega arith)) in
+    omega (arith, length-scatter old es fits.1, sum_by_more_le (λ (e : SgEntry). e.len) es k d (omega arith)) in
     let place : total (take (suc k) (e ∷ es)) + skip ≡ length (range old e) + (total (take k es) + skip) =
-        omega (arith, sum_by-cons (λ (e : SgEntry). e.len) e (take k es), size) in
+    omega (arith, sum_by-cons (λ (e : SgEntry). e.len) e (take k es), size) in
     rw (same, rest, place) (sym (paste_back (range old e) (flat_map (range old) es) (total (take k es) + skip) s n whole inside))
 
 -- what a sound list of entries names on its pages
@@ -238,6 +235,6 @@ read_at mem (e ∷ es) zero d skip count fits within ends =
 read_at mem (e ∷ es) (suc k) d skip count fits within ends =
     let size = length-range mem e fits.0 in
     let place : total (take (suc k) (e ∷ es)) + skip ≡ length (range mem e) + (total (take k es) + skip) =
-        omega (arith, sum_by-cons (λ (e : SgEntry). e.len) e (take k es), size) in
+    omega (arith, sum_by-cons (λ (e : SgEntry). e.len) e (take k es), size) in
     rw place (read_at mem es k d skip count fits.1 (omega arith) ends
-        ∙ sym (ap (take count) (read_back (range mem e) (flat_map (range mem) es) (total (take k es) + skip))))
+    ∙ sym (ap (take count) (read_back (range mem e) (flat_map (range mem) es) (total (take k es) + skip))))

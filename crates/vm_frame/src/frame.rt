@@ -72,7 +72,8 @@ impl Frame {
 
     /// Sets byte i to (7 · i + `seed`) modulo 256, for each i.
     pub fn fill(&mut self, seed: u8)
-        ensures { self.new ≡ record self.old { bytes = seeded seed (length self.old.bytes) } }
+        ensures value { self.new ≡ record self.old { bytes = seeded seed (length self.old.bytes) } }
+        ensures size { length self.new.bytes ≡ length self.old.bytes }
     {
         let mut value = seed;
         for byte in self.bytes.iter_mut() {

@@ -3,10 +3,15 @@
 
 mod frame;
 mod gather;
+mod mem;
 mod page_parts;
 mod scatter;
 mod user;
 
 pub use frame::{Frame, Range};
+pub use mem::{Held, Mem};
 pub use scatter::{SgEntry, SgFault};
 pub use user::{MAX_ENTRIES, MAX_PAGES, User};
+
+#[cfg(test)]
+mod tests;

@@ -1,6 +1,5 @@
 use Rattle.std.proofs.Common.{◌≡◌, ◌++◌, ◌∙◌, length, take, drop, refl, ap, arith}
 use Rattle.std.proofs.lemmas.List.{length-take-le}
-use Rattle.std.proofs.lemmas.Grind.{common_steps}
 use Rattle.vm_mem.specs.Page.{page_number, place_in_page}
 use Rattle.vm_frame.specs.Scatter.{page_bytes}
 use Rattle.vm_frame.proofs.PasteLemmas.{read_within}

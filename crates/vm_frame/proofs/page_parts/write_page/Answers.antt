@@ -1,6 +1,4 @@
-use Rattle.std.proofs.Common.{◌≡◌, ◌<◌, ◌∙◌, ◌+◌, length, get_or, set, map, drop, sym, arith}
-use Rattle.std.proofs.lemmas.Grind.{common_steps}
-use Rattle.std.proofs.lemmas.List.{map-set, set-get_or}
+use Rattle.std.proofs.Common.{◌≡◌, ◌<◌, ◌∙◌, length, arith}
 use Rattle.std.proofs.lemmas.List.Elements.{All-set}
 use Rattle.vm_mem.specs.declared.page.Page.{Page}
 use Rattle.vm_frame.proofs.PageLemmas.{place_of, found, missing, set_here, set_others, numbers_after_set}
@@ -38,7 +36,7 @@ returns-then-place-pages-clause-whole c =
     let page = found c.args.pages.now c.args.number c.index-pages-place.result there in
     let within = rw (page.0, ← c.place_of-place.ensures) at c.requires.within in
     let size : length c.copy_in.new.self.bytes ≡ 4096 = rw c.copy_in.ensures.bytes
-        (length_written _ c.args.at c.args.from.now within ∙ c.requires.whole c.place_of-place.result c.index-pages-place.result c.if-place-pages.true) in
+    (length_written _ c.args.at c.args.from.now within ∙ c.requires.whole c.place_of-place.result c.index-pages-place.result c.if-place-pages.true) in
     All-set (λ (page : Page). length page.bytes ≡ 4096) c.args.pages.now c.place_of-place.result c.copy_in.new.self size c.requires.whole
 
 pub returns-else-place-pages-clause-here : goal.returns-else-place-pages-clause-here

@@ -9,6 +9,6 @@ loop-byte-preserved c =
     let written = take_more_set c.loop-byte.byte-items i c.loop-byte.value (omega arith) in
     let next = map-range_with_len_more (λ k. (7 * k + c.args.seed) % 256) 0 i i (omega arith) in
     record {
-        value = omega arith;
-        filled = rw (written, next, c.loop-byte.invariant.filled, c.loop-byte.invariant.value) refl;
+      value = omega arith;
+      filled = rw (written, next, c.loop-byte.invariant.filled, c.loop-byte.invariant.value) refl;
     }
