@@ -6,6 +6,8 @@ use std::marker::Model;
 use vm_mem::{Memory, Store};
 
 /// A run of bytes that ends past a frame's end.
+///
+/// Source: own.
 #[derive(Clone, Copy, Debug, PartialEq, Eq)]
 pub struct Range;
 
@@ -30,7 +32,7 @@ impl Model for Frame {
 }
 
 impl Frame {
-    /// A frame of `len` zeros.
+    /// A frame of `len` zeros, or want of memory.
     pub fn make_zero(alloc: Global, tag: u64, len: u32) -> Result<Frame, Memory>
         ensures { IfOk result (λ frame. frame ≡ record { tag = tag; bytes = replicate len 0 }) }
     {
@@ -38,13 +40,14 @@ impl Frame {
         Ok(Frame { tag, bytes })
     }
 
+    /// The number that names the frame.
     pub fn tag(&self) -> u64
         ensures { result ≡ self.now.tag }
     {
         self.tag
     }
 
-    /// Fills `out` with the bytes from `at` on.
+    /// Fills `out` with the bytes from `at` on. `Range` is answered where they end past the frame's size.
     pub fn read(&self, at: u32, out: &mut [u8]) -> Result<(), Range>
         ensures range { IsErr result ↔ (length self.now.bytes < at + length out.old) }
         ensures ok { OnOk result (out.new ≡ take (length out.old) (drop at self.now.bytes)) }
@@ -57,7 +60,7 @@ impl Frame {
         Ok(())
     }
 
-    /// Sets the bytes from `at` on to `bytes`, and no others.
+    /// Sets the bytes from `at` on to `bytes`, and no others. `Range` is answered where they end past the frame's size.
     pub fn write(&mut self, at: u32, bytes: &[u8]) -> Result<(), Range>
         ensures range { IsErr result ↔ (length self.old.bytes < at + length bytes.now) }
         ensures ok { OnOk result (self.new ≡ record self.old { bytes = take at self.old.bytes ++ (bytes.now ++ drop (at + length bytes.now) self.old.bytes) }) }

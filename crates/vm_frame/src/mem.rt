@@ -57,10 +57,13 @@ impl Store for Mem {
 }
 
 /// The memory of a buffer that is held somewhere, with the buffer's queue and index.
+///
+/// Source: own.
 #[derive(Drop)]
 pub struct Held {
-    /// The type of the buffer.
+    /// The type of the buffer, by its number.
     pub queue: u32,
+    /// The buffer's index in its queue.
     pub index: u32,
     pub mem: Mem,
 }

@@ -3,7 +3,9 @@
 /// Source: own, after the VIRTIO 1.4 draft, "Media Device".
 #[derive(Clone, Copy, Debug, PartialEq, Eq)]
 pub struct SgEntry {
+    /// A guest's address, in bytes.
     pub start: u64,
+    /// How many bytes.
     pub len: u32,
 }
 
