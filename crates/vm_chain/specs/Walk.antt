@@ -48,5 +48,5 @@ outcome limit homes before (v ∷ vs) =
 
 -- the descriptors of the walk of a table from a head on, or its first fault: the place behind `limit` others shows that a
 -- walk is too long
-abbrev pub walk_of : List Desc → ℕ → ℕ → List ℕ → Result (List Desc) ChainFault
+unfoldable pub walk_of : List Desc → ℕ → ℕ → List ℕ → Result (List Desc) ChainFault
 walk_of table head limit homes = outcome limit homes [] (visits table (suc limit) head)

@@ -7,6 +7,8 @@ use std::marker::Model;
 use vm_mem::Memory;
 
 /// The descriptors of a walk, in order, with room for as many as a walk may have.
+///
+/// Source: own.
 #[derive(Drop)]
 pub struct Chain {
     limit: u16,
@@ -25,7 +27,7 @@ impl Model for Chain {
 }
 
 impl Chain {
-    /// An empty chain with room for `limit` descriptors.
+    /// An empty chain with room for `limit` descriptors, or want of memory.
     pub fn room(alloc: Global, limit: u16) -> Result<Chain, Memory>
         ensures { IfOk result (λ chain. chain ≡ record { limit = limit; descs = [] }) }
     {
@@ -40,6 +42,7 @@ impl Chain {
         self.limit
     }
 
+    /// The descriptors in the order of the walk.
     pub fn descs(&self) -> &[Desc]
         ensures { result.now ≡ self.now.descs }
     {

@@ -21,9 +21,13 @@ pub const INDIRECT: u16 = 4;
 /// Source: VIRTIO 1.3, 2.7.5 "The Virtqueue Descriptor Table".
 #[derive(Clone, Copy, Debug, PartialEq, Eq)]
 pub struct Desc {
+    /// A guest's address, in bytes.
     pub addr: u64,
+    /// How many bytes.
     pub len: u32,
+    /// `NEXT`, `WRITE` and `INDIRECT`; other bits are ignored.
     pub flags: u16,
+    /// The index of the descriptor that follows, where `NEXT` is set.
     pub next: u16,
 }
 
@@ -39,12 +43,14 @@ impl Desc {
         }
     }
 
+    /// Whether the device writes the bytes; else it reads them.
     pub fn is_writable(&self) -> bool
         ensures { result ≡ is_writable self.now }
     {
         self.flags & WRITE != 0
     }
 
+    /// Whether the bytes are a table of descriptors.
     pub fn is_indirect(&self) -> bool
         ensures { result ≡ is_indirect self.now }
     {

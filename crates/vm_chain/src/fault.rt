@@ -22,5 +22,6 @@ pub enum ChainKind {
 #[derive(Clone, Copy, Debug, PartialEq, Eq)]
 pub struct ChainFault {
     pub kind: ChainKind,
+    /// The index in the table that was walked.
     pub at: u16,
 }

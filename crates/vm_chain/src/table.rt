@@ -12,6 +12,7 @@ use vm_mem::lies_in_page;
 ///
 /// Source: VIRTIO 1.3, 2.7.5 "The Virtqueue Descriptor Table"; own are the limit, the refusal of a descriptor without
 /// bytes, the pages and the order of the faults.
+#[tactic(auto, unfolding(crate::specs::Walk::walk_of))]
 pub fn walk(
     table: &[Desc],
     head: u16,

@@ -9,10 +9,13 @@ use std::collections::BTreeMap;
 use std::marker::Model;
 
 /// Why a page wasn't added.
+///
+/// Source: own.
 #[derive(Clone, Copy, Debug, PartialEq, Eq)]
 pub enum AddError {
     /// A page with this number was added before.
     Known,
+    /// There was no memory for it.
     Memory,
 }
 

@@ -1,6 +1,8 @@
 use std::alloc::{AllocError, AllocFailed};
 
 /// The answer of a call that found no memory.
+///
+/// Source: own.
 #[derive(Clone, Copy, Debug, PartialEq, Eq)]
 pub struct Memory;
 

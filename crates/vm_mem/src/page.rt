@@ -10,15 +10,18 @@ use std::alloc::Global;
 /// Source: own.
 pub const PAGE_SIZE: u32 = 4096;
 
-/// A page of a guest's memory: its number, which is its address over 4096, and its 4096 bytes.
+/// A page of a guest's memory: its number and its 4096 bytes.
+///
+/// Source: own.
 #[derive(Drop)]
 pub struct Page {
+    /// The address of the first byte over 4096.
     pub number: u64,
     pub(crate) bytes: PageBytes,
 }
 
 impl Page {
-    /// A page of zeros.
+    /// A page of zeros, or want of memory.
     pub fn make_zero(alloc: Global, number: u64) -> Result<Page, Memory>
         ensures { IfOk result (λ page. page ≡ record { number = number; bytes = replicate 4096 0 }) }
     {
@@ -70,6 +73,8 @@ impl Store for Page {
 
 /// Whether the `len` bytes from the address `start` on lie in the page with this number: they begin in it, and don't go past
 /// its end.
+///
+/// Source: own.
 pub fn lies_in_page(start: u64, len: u32, number: u64) -> bool
     ensures { result ≡ lies_in_page start len number }
 {

@@ -1,6 +1,8 @@
 ghost use Rattle.std.specs.Prelude.{◌≡◌, ◌+◌, ◌<◌, ◌≤◌, ◌++◌, List, ℕ, length, take, drop, slice_index, slice_set};
 
-/// A run of bytes of fixed length, however it is kept.
+/// A run of bytes of fixed length, however it is kept. Places count from 0.
+///
+/// Source: own.
 pub trait Store {
     /// What `rest_of` says.
     ghost Rest: { Type 0 };

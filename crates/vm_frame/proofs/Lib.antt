@@ -1,0 +1,4 @@
+mod GatherLemmas
+mod PageLemmas
+mod PasteLemmas
+mod ScatterLemmas

@@ -1,0 +1,4 @@
+pub mod Frame
+pub mod Mem
+pub mod Scatter
+pub mod User
