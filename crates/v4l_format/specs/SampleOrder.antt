@@ -1,6 +1,6 @@
 -- How the samples of a picture of w by h pixels lie in its bytes. Rows run from the top and pixels
 -- from the left, without gaps; w and h are even. Source: the Linux V4L2 pixel formats of these names.
-use Rattle.std.specs.Prelude.{ℕ, ◌+◌, ◌-◌, ◌*◌, ◌/◌, ◌%◌, ◌==◌, if◌then◌else◌, nat_lt, List, slice_index}
+use Rattle.std.specs.Prelude.{ℕ, ◌<◌, ◌+◌, ◌-◌, ◌*◌, ◌/◌, ◌%◌, ◌==◌, if◌then◌else◌, nat_lt, List, slice_index}
 use Rattle.v4l_format.specs.declared.carried.Carried.{Carried}
 use Rattle.v4l_format.specs.declared.colours.Colours.{Colours}
 use Rattle.v4l_format.specs.declared.colours.Colours.TheVariants.{Ycbcr, Rgb}
@@ -70,6 +70,11 @@ carried_by Yu12 w h i =
 carried_by Rgb3 w h i =
     if i % 3 == 0 then of_pixel w (i / 3) R else (
     if i % 3 == 1 then of_pixel w (i / 3) G else of_pixel w (i / 3) B)
+
+-- the pixel that is carried lies in a picture of w by h pixels
+pub record IsWithin (w h : ℕ) (carried : Carried) : Type 0 where
+  pub across : carried.x < w
+  pub down : carried.y < h
 
 -- the number of the pixel at (x, y), of its pair, and of its square
 abbrev pub pixel_number : ℕ → ℕ → ℕ → ℕ

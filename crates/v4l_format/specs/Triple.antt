@@ -1,6 +1,6 @@
 -- Pixels and their colours. The conversions are this project's own: BT.601 in parts of 256, with
 -- divisions that round down.
-use Rattle.std.specs.Prelude.{ℕ, ◌+◌, ◌-◌, ◌*◌, ◌/◌, min}
+use Rattle.std.specs.Prelude.{ℕ, ◌+◌, ◌-◌, ◌*◌, ◌/◌, min, ℤ, pos, negsuc, ◌+ℤ◌, ◌-ℤ◌, ◌*ℤ◌}
 use Rattle.v4l_format.specs.declared.colours.Colours.{Colours}
 use Rattle.v4l_format.specs.declared.colours.Colours.TheVariants.{Ycbcr, Rgb}
 use Rattle.v4l_format.specs.declared.component.Component.{Component}
@@ -24,19 +24,24 @@ ycbcr_of t = triple
     ((32896 + 112 * t.2 - 38 * t.0 - 74 * t.1) / 256)
     ((32896 + 112 * t.0 - 94 * t.1 - 18 * t.2) / 256)
 
--- a 256th of `more` less `less`, brought into 0 to 255. A subtraction of natural numbers stops at 0,
--- which is where a negative one is brought to
-abbrev pub brought : ℕ → ℕ → ℕ
-brought more less = min 255 ((more - less) / 256)
+-- a 256th, rounded down and brought into 0 to 255
+abbrev pub brought : ℤ → ℕ
+brought (pos n) = min 255 (n / 256)
+brought (negsuc n) = 0
 
--- red, green and blue of a Y, Cb and Cr. With c = Y - 16, d = Cb - 128 and e = Cr - 128 these are
--- (298c + 409e + 128) / 256, (298c - 100d - 208e + 128) / 256 and (298c + 516d + 128) / 256, each
--- brought into 0 to 255; what is taken away stands behind what is added
+-- red, green and blue of a Y, Cb and Cr
+abbrev pub red_of : ℕ → ℕ → ℕ
+red_of y cr = brought (pos 298 *ℤ (pos y -ℤ pos 16) +ℤ pos 409 *ℤ (pos cr -ℤ pos 128) +ℤ pos 128)
+
+abbrev pub green_of : ℕ → ℕ → ℕ → ℕ
+green_of y cb cr =
+    brought (pos 298 *ℤ (pos y -ℤ pos 16) -ℤ pos 100 *ℤ (pos cb -ℤ pos 128) -ℤ pos 208 *ℤ (pos cr -ℤ pos 128) +ℤ pos 128)
+
+abbrev pub blue_of : ℕ → ℕ → ℕ
+blue_of y cb = brought (pos 298 *ℤ (pos y -ℤ pos 16) +ℤ pos 516 *ℤ (pos cb -ℤ pos 128) +ℤ pos 128)
+
 abbrev pub rgb_of : Triple → Triple
-rgb_of t = triple
-    (brought (298 * t.0 + 409 * t.2 + 128) (298 * 16 + 409 * 128))
-    (brought (298 * t.0 + 100 * 128 + 208 * 128 + 128) (298 * 16 + 100 * t.1 + 208 * t.2))
-    (brought (298 * t.0 + 516 * t.1 + 128) (298 * 16 + 516 * 128))
+rgb_of t = triple (red_of t.0 t.2) (green_of t.0 t.1 t.2) (blue_of t.0 t.1)
 
 -- a pixel turned from the one colours into the other
 abbrev pub turned : Colours → Colours → Triple → Triple

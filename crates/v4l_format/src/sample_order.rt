@@ -1,3 +1,5 @@
+use crate::colours::Colours;
+
 /// How the samples of a picture lie in its bytes, row by row from the top.
 #[derive(Clone, Copy, Debug, PartialEq, Eq)]
 pub enum SampleOrder {
@@ -13,4 +15,19 @@ pub enum SampleOrder {
     Yu12,
     /// Red, green, blue of each pixel.
     Rgb3,
+}
+
+impl SampleOrder {
+    ghost use Rattle.std.specs.Prelude.{◌≡◌};
+    ghost use Rattle.v4l_format.specs.SampleOrder.{colours_of};
+
+    /// The components of a pixel; of a grey one these are Y, 128 and 128.
+    pub fn colours(self) -> Colours
+        ensures { result ≡ colours_of self }
+    {
+        match self {
+            SampleOrder::Rgb3 => Colours::Rgb,
+            _ => Colours::Ycbcr,
+        }
+    }
 }
