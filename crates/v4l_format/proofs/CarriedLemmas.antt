@@ -1,9 +1,8 @@
 -- What a byte carries lies within the picture.
-use Rattle.std.proofs.Common.{◌≡◌, ◌==◌, nat_lt, if◌then◌else◌, Bool, ◌-◌, ◌<◌, ◌≤◌, ℕ, ◌+◌, ◌*◌, ◌/◌, ◌%◌, arith, ap, sym, ◌∙◌}
+use Rattle.std.proofs.Common.{◌≡◌, ◌-◌, ◌<◌, ◌≤◌, ℕ, ◌+◌, ◌*◌, ◌/◌, ◌%◌, arith, ap, sym, ◌∙◌}
 use Rattle.std.proofs.Math.Nat.{mul_comm, mul_assoc}
-use Rattle.std.proofs.lemmas.Bool.{cond_both, ltb-true, ltb-false}
 use Rattle.std.proofs.lemmas.Nat.{div_below, mod_below, mul-add-lt}
-use Rattle.v4l_format.specs.declared.carried.Carried.{Carried}
+use Rattle.v4l_format.proofs.Choices.{of_two_planes, of_two, of_three, of_four}
 use Rattle.v4l_format.specs.declared.component.Component.{Component}
 use Rattle.v4l_format.specs.declared.component.Component.TheVariants.{Y, Cb, Cr, R, G, B}
 use Rattle.v4l_format.specs.declared.sample_order.SampleOrder.{SampleOrder}
@@ -54,25 +53,6 @@ square_within w h x y even_w even_h across down =
     let column : x / 2 < w / 2 = omega arith in
     omega (arith, square_area w h even_w even_h, mul-add-lt (y / 2) (w / 2) (x / 2) (h / 2) line column, mul_comm (w / 2) (h / 2))
 
--- what a byte carries that is chosen by a test
-chosen_within : (w h : ℕ) (b : Bool) (one other : Carried) → IsWithin w h one → IsWithin w h other → IsWithin w h (if b then one else other)
-chosen_within w h b one other p q = cond_both b one other (IsWithin w h) (λ _. p) (λ _. q)
-
--- by the place among two, three or four bytes
-second_within : (w h n : ℕ) (a b : Carried) → IsWithin w h a → IsWithin w h b → IsWithin w h (if n == 0 then a else b)
-second_within w h n a b = chosen_within w h (n == 0) a b
-
-third_within : (w h n : ℕ) (a b c : Carried) → IsWithin w h a → IsWithin w h b → IsWithin w h c → IsWithin w h (if n == 0 then a else (if n == 1 then b else c))
-third_within w h n a b c p q r = chosen_within w h (n == 0) a _ p (chosen_within w h (n == 1) b c q r)
-
-fourth_within : (w h n : ℕ) (a b c d : Carried) → IsWithin w h a → IsWithin w h b → IsWithin w h c → IsWithin w h d → IsWithin w h (if n == 0 then a else (if n == 1 then b else (if n == 2 then c else d)))
-fourth_within w h n a b c d p q r s = chosen_within w h (n == 0) a _ p (chosen_within w h (n == 1) b _ q (chosen_within w h (n == 2) c d r s))
-
--- by the plane
-plane_within : (w h i n : ℕ) (one other : Carried) → (i < n → IsWithin w h one) → (n ≤ i → IsWithin w h other) → IsWithin w h (if nat_lt i n then one else other)
-plane_within w h i n one other low high =
-    cond_both (nat_lt i n) one other (IsWithin w h) (λ e. low (ltb-true i n e)) (λ e. high (ltb-false i n e))
-
 -- what byte i carries
 pub carried_within : (o : SampleOrder) (w h i : ℕ) → w % 2 ≡ 0 → h % 2 ≡ 0 → 2 ≤ w → i < picture_bytes o w h → IsWithin w h (carried_by o w h i)
 carried_within Grey w h i even_w even_h wide low = of_pixel_within w h i Y (omega arith) (omega (arith, mul_comm w h))
@@ -81,32 +61,32 @@ carried_within Yuyv w h i even_w even_h wide low =
     let near : i / 4 < h * (w / 2) = omega arith in
     let pair = λ (right : ℕ) (c : Component) (side : right ≤ 1). of_pair_within w h (i / 4) right c even_w wide side near in
     let left : 0 ≤ 1 = omega arith in
-    fourth_within w h (i % 4) _ _ _ _ (pair 0 Y left) (pair 0 Cb left) (pair 1 Y (omega arith)) (pair 0 Cr left)
+    of_four (IsWithin w h) (i % 4) _ _ _ _ (omega arith) (λ _. pair 0 Y left) (λ _. pair 0 Cb left) (λ _. pair 1 Y (omega arith)) (λ _. pair 0 Cr left)
 carried_within Uyvy w h i even_w even_h wide low =
     let area = pair_area w h even_w in
     let near : i / 4 < h * (w / 2) = omega arith in
     let pair = λ (right : ℕ) (c : Component) (side : right ≤ 1). of_pair_within w h (i / 4) right c even_w wide side near in
     let left : 0 ≤ 1 = omega arith in
-    fourth_within w h (i % 4) _ _ _ _ (pair 0 Cb left) (pair 0 Y left) (pair 0 Cr left) (pair 1 Y (omega arith))
+    of_four (IsWithin w h) (i % 4) _ _ _ _ (omega arith) (λ _. pair 0 Cb left) (λ _. pair 0 Y left) (λ _. pair 0 Cr left) (λ _. pair 1 Y (omega arith))
 carried_within Nv12 w h i even_w even_h wide low =
     let area = square_area w h even_w even_h in
-    plane_within w h i (w * h) _ _
+    of_two_planes (IsWithin w h) i (w * h) _ _
     (λ within. of_pixel_within w h i Y (omega arith) (omega (arith, mul_comm w h)))
     (λ behind.
     let near : (i - w * h) / 2 < h / 2 * (w / 2) = omega arith in
     let square = λ (c : Component). of_square_within w h ((i - w * h) / 2) c even_w even_h wide near in
-    second_within w h ((i - w * h) % 2) _ _ (square Cb) (square Cr))
+    of_two (IsWithin w h) ((i - w * h) % 2) _ _ (omega arith) (λ _. square Cb) (λ _. square Cr))
 carried_within Yu12 w h i even_w even_h wide low =
     let area = square_area w h even_w even_h in
-    plane_within w h i (w * h) _ _
+    of_two_planes (IsWithin w h) i (w * h) _ _
     (λ within. of_pixel_within w h i Y (omega arith) (omega (arith, mul_comm w h)))
-    (λ behind. plane_within w h (i - w * h) (w * h / 4) _ _
+    (λ behind. of_two_planes (IsWithin w h) (i - w * h) (w * h / 4) _ _
     (λ first. of_square_within w h (i - w * h) Cb even_w even_h wide (omega arith))
     (λ second. of_square_within w h (i - w * h - w * h / 4) Cr even_w even_h wide (omega arith)))
 carried_within Rgb3 w h i even_w even_h wide low =
     let near : i / 3 < h * w = omega (arith, mul_comm w h) in
     let pixel = λ (c : Component). of_pixel_within w h (i / 3) c (omega arith) near in
-    third_within w h (i % 3) _ _ _ (pixel R) (pixel G) (pixel B)
+    of_three (IsWithin w h) (i % 3) _ _ _ (omega arith) (λ _. pixel R) (λ _. pixel G) (λ _. pixel B)
 
 pub carried_at_within : (f : Fmt) (i : ℕ) → IsAdjusted f → i < picture_size f → IsWithin f.width f.height (carried_at f i)
 carried_at_within f i adjusted low =

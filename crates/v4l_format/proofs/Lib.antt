@@ -1,2 +1,5 @@
-pub mod SizeLemmas
+pub mod FmtLemmas
+pub mod Choices
 pub mod CarriedLemmas
+pub mod CopyLemmas
+pub mod PictureLemmas

@@ -17,6 +17,7 @@ abbrev pub adjusted_in : List FormatRow → FourCc → ℕ → ℕ → Fmt
 adjusted_in rows code w h =
     record { code = (row_in rows code).code; width = adjusted_length 640 w; height = adjusted_length 480 h }
 
+-- the same by the formats that lie in one plane
 unfoldable pub adjusted : FourCc → ℕ → ℕ → Fmt
 adjusted code w h = adjusted_in single_planar code w h
 
@@ -26,7 +27,7 @@ pub record IsFitting (most n : ℕ) : Type 0 where
   pub low : 16 ≤ n
   pub high : n ≤ most
 
--- adjusting gives the format back
+-- the format is one of the table, in a size that is offered: adjusting gives it back
 pub record IsAdjusted (f : Fmt) : Type 0 where
   pub known : (row_of f.code).code ≡ f.code
   pub width : IsFitting 640 f.width

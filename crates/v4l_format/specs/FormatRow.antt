@@ -1,5 +1,6 @@
 -- The formats, in order.
-use Rattle.std.specs.Prelude.{ℕ, List, [], ◌∷◌, ◌==◌, if◌then◌else◌}
+use Rattle.std.specs.Prelude.{ℕ, codes, List, [], ◌∷◌, ◌==◌, if◌then◌else◌}
+use Rattle.std.specs.Int.{from_le_bytes, w32}
 use Rattle.v4l_const.specs.declared.four_cc.FourCc.{FourCc}
 use Rattle.v4l_const.specs.declared.model.Model.{Model}
 use Rattle.v4l_const.specs.declared.model.Model.TheVariants.{Capture, Convert}
@@ -7,23 +8,24 @@ use Rattle.v4l_format.specs.declared.format_row.FormatRow.{FormatRow}
 use Rattle.v4l_format.specs.declared.sample_order.SampleOrder.{SampleOrder}
 use Rattle.v4l_format.specs.declared.sample_order.SampleOrder.TheVariants.{Grey, Yuyv, Uyvy, Nv12, Yu12, Rgb3}
 
--- A row of the table: the four letters' little-endian number, and the order of the samples.
-abbrev pub row : ℕ → SampleOrder → FormatRow
-row code order = record { code = record { 0 = code }; order = order }
+-- a row of the table: a code by its four letters, of which it is the little-endian number, and the order
+-- of the samples
+abbrev pub row : List ℕ → SampleOrder → FormatRow
+row letters order = record { code = record { 0 = from_le_bytes w32 letters }; order = order }
 
 -- the format that stands for an unknown code, and that a queue begins with
 abbrev pub grey : FormatRow
-grey = row 0x59455247 Grey
+grey = row (codes "GREY") Grey
 
 -- the formats whose pictures lie in one plane
 abbrev pub single_planar : List FormatRow
 single_planar =
     grey ∷
-    row 0x56595559 Yuyv ∷
-    row 0x59565955 Uyvy ∷
-    row 0x3231564e Nv12 ∷
-    row 0x32315559 Yu12 ∷
-    row 0x33424752 Rgb3 ∷ []
+    row (codes "YUYV") Yuyv ∷
+    row (codes "UYVY") Uyvy ∷
+    row (codes "NV12") Nv12 ∷
+    row (codes "YU12") Yu12 ∷
+    row (codes "RGB3") Rgb3 ∷ []
 
 -- the formats that a model offers
 abbrev pub formats_of : Model → List FormatRow

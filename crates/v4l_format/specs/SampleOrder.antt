@@ -76,7 +76,8 @@ pub record IsWithin (w h : ℕ) (carried : Carried) : Type 0 where
   pub across : carried.x < w
   pub down : carried.y < h
 
--- the number of the pixel at (x, y), of its pair, and of its square
+-- the number of the pixel at (x, y), of the pair, and of the square in which it lies, each counted along
+-- the lines
 abbrev pub pixel_number : ℕ → ℕ → ℕ → ℕ
 pixel_number w x y = y * w + x
 
@@ -89,7 +90,8 @@ square_number w x y = y / 2 * (w / 2) + x / 2
 abbrev pub triple : ℕ → ℕ → ℕ → Triple
 triple a b c = record { 0 = a; 1 = b; 2 = c }
 
--- the pixel at (x, y) of a picture
+-- the pixel at (x, y) of a picture: its Y with the Cb and the Cr of its pair or square, or its red, green
+-- and blue
 abbrev pub pixel_in : SampleOrder → ℕ → ℕ → List ℕ → ℕ → ℕ → Triple
 pixel_in Grey w h bytes x y = triple (slice_index bytes (pixel_number w x y)) 128 128
 pixel_in Yuyv w h bytes x y =

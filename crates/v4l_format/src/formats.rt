@@ -2,38 +2,39 @@ ghost use Rattle.std.specs.Prelude.{◌≡◌, ◌↔◌, ◌≤◌, length, map
 ghost use Rattle.v4l_format.specs.Fmt.{order_of};
 ghost use Rattle.v4l_format.specs.FormatRow.{single_planar, row_in, row_of};
 
+use crate::codes::{GREY, NV12, RGB3, UYVY, YU12, YUYV};
 use crate::fmt::Fmt;
 use crate::format_row::FormatRow;
 use crate::sample_order::SampleOrder;
 use v4l_const::FourCc;
 
 /// The format that stands for an unknown code.
-const GREY: FormatRow = FormatRow {
-    code: FourCc(0x5945_5247),
+const FIRST: FormatRow = FormatRow {
+    code: GREY,
     order: SampleOrder::Grey,
 };
 
 /// The formats whose pictures lie in one plane, in order.
 static SINGLE_PLANAR: [FormatRow; 6] = [
-    GREY,
+    FIRST,
     FormatRow {
-        code: FourCc(0x5659_5559),
+        code: YUYV,
         order: SampleOrder::Yuyv,
     },
     FormatRow {
-        code: FourCc(0x5956_5955),
+        code: UYVY,
         order: SampleOrder::Uyvy,
     },
     FormatRow {
-        code: FourCc(0x3231_564e),
+        code: NV12,
         order: SampleOrder::Nv12,
     },
     FormatRow {
-        code: FourCc(0x3231_5559),
+        code: YU12,
         order: SampleOrder::Yu12,
     },
     FormatRow {
-        code: FourCc(0x3342_4752),
+        code: RGB3,
         order: SampleOrder::Rgb3,
     },
 ];
@@ -54,7 +55,7 @@ fn find_row(rows: &[FormatRow], code: FourCc) -> FormatRow
             return *row;
         }
     }
-    GREY
+    FIRST
 }
 
 /// The row of a code among the formats that a device with single planes has.

@@ -2,11 +2,13 @@
 #![tactic(auto)]
 
 mod carried;
+mod codes;
 mod colours;
 mod component;
 mod fmt;
 mod format_row;
 mod formats;
+mod laws;
 mod levels;
 mod pattern;
 mod patterns;
@@ -21,9 +23,14 @@ pub use colours::Colours;
 pub use component::Component;
 pub use fmt::Fmt;
 pub use format_row::FormatRow;
-pub use formats::nth_format;
+pub use formats::{nth_format, order_of};
+pub use laws::{adjusting_gives_adjusted_formats_back, converting_to_the_same_format_copies};
 pub use pattern::Pattern;
+pub use patterns::pattern_at;
 pub use picture::{converted_byte, pattern_byte};
 pub use sample_order::SampleOrder;
 pub use sizes::{adjust, bytesperline, sizeimage};
 pub use triple::Triple;
+
+#[cfg(test)]
+mod tests;

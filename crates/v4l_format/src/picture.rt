@@ -48,7 +48,7 @@ pub fn converted_byte<S: Store>(src_fmt: &Fmt, src: &S, dst_fmt: &Fmt, i: u32) -
 }
 
 /// The pixel at (`x`, `y`) of the picture in `src`.
-#[tactic(auto, using(crate::proofs::SizeLemmas::area_most))]
+#[tactic(auto, using(crate::proofs::FmtLemmas::area_most))]
 fn pixel_at<S: Store>(f: &Fmt, src: &S, x: u32, y: u32) -> Triple
     requires adjusted { IsAdjusted f.now }
     requires across { x < f.now.width }

@@ -10,7 +10,7 @@ use crate::formats::order_of;
 use crate::sample_order::SampleOrder;
 
 /// What byte `i` of a picture of this format carries.
-#[tactic(auto, using(crate::proofs::SizeLemmas::area_most))]
+#[tactic(auto, using(crate::proofs::FmtLemmas::area_most))]
 pub fn carried_at(f: &Fmt, i: u32) -> Carried
     requires adjusted { IsAdjusted f.now }
     requires place { i < picture_size f.now }
@@ -32,20 +32,19 @@ pub fn carried_at(f: &Fmt, i: u32) -> Carried
             2 => Carried::of_pair(width, i / 4, 0, Component::Cr),
             _ => Carried::of_pair(width, i / 4, 1, Component::Y),
         },
-        SampleOrder::Nv12 if i < pixels => Carried::of_pixel(width, i, Component::Y),
-        SampleOrder::Nv12 if (i - pixels) % 2 == 0 => Carried::of_square(
+        SampleOrder::Nv12 | SampleOrder::Yu12 if i < pixels => Carried::of_pixel(
             width,
-            (i - pixels) / 2,
-            Component::Cb,
+            i,
+            Component::Y,
         ),
-        SampleOrder::Nv12 => Carried::of_square(width, (i - pixels) / 2, Component::Cr),
-        SampleOrder::Yu12 if i < pixels => Carried::of_pixel(width, i, Component::Y),
-        SampleOrder::Yu12 if i - pixels < pixels / 4 => Carried::of_square(
-            width,
-            i - pixels,
-            Component::Cb,
-        ),
-        SampleOrder::Yu12 => Carried::of_square(width, i - pixels - pixels / 4, Component::Cr),
+        SampleOrder::Nv12 => match (i - pixels) % 2 {
+            0 => Carried::of_square(width, (i - pixels) / 2, Component::Cb),
+            _ => Carried::of_square(width, (i - pixels) / 2, Component::Cr),
+        },
+        SampleOrder::Yu12 => match (i - pixels).checked_sub(pixels / 4) {
+            None => Carried::of_square(width, i - pixels, Component::Cb),
+            Some(n) => Carried::of_square(width, n, Component::Cr),
+        },
         SampleOrder::Rgb3 => match i % 3 {
             0 => Carried::of_pixel(width, i / 3, Component::R),
             1 => Carried::of_pixel(width, i / 3, Component::G),
@@ -55,7 +54,7 @@ pub fn carried_at(f: &Fmt, i: u32) -> Carried
 }
 
 /// The number of the pixel at (`x`, `y`), counted along the lines.
-#[tactic(auto, using(crate::proofs::SizeLemmas::area_most, std::proofs::lemmas::Nat::rows))]
+#[tactic(auto, using(crate::proofs::FmtLemmas::area_most, std::proofs::lemmas::Nat::rows))]
 pub fn pixel_number(f: &Fmt, x: u32, y: u32) -> u32
     requires adjusted { IsAdjusted f.now }
     requires across { x < f.now.width }
@@ -67,7 +66,7 @@ pub fn pixel_number(f: &Fmt, x: u32, y: u32) -> u32
 }
 
 /// The number of the pair of pixels in which (`x`, `y`) lies.
-#[tactic(auto, using(crate::proofs::SizeLemmas::area_most, std::proofs::lemmas::Nat::rows, crate::proofs::CarriedLemmas::pair_area))]
+#[tactic(auto, using(crate::proofs::FmtLemmas::area_most, std::proofs::lemmas::Nat::rows, crate::proofs::CarriedLemmas::pair_area))]
 pub fn pair_number(f: &Fmt, x: u32, y: u32) -> u32
     requires adjusted { IsAdjusted f.now }
     requires across { x < f.now.width }
@@ -79,7 +78,7 @@ pub fn pair_number(f: &Fmt, x: u32, y: u32) -> u32
 }
 
 /// The number of the square of two by two pixels in which (`x`, `y`) lies.
-#[tactic(auto, using(crate::proofs::SizeLemmas::area_most, std::proofs::lemmas::Nat::rows, crate::proofs::CarriedLemmas::square_area))]
+#[tactic(auto, using(crate::proofs::FmtLemmas::area_most, std::proofs::lemmas::Nat::rows, crate::proofs::CarriedLemmas::square_area))]
 pub fn square_number(f: &Fmt, x: u32, y: u32) -> u32
     requires adjusted { IsAdjusted f.now }
     requires across { x < f.now.width }

@@ -33,20 +33,12 @@ fn adjusted_to(length: u32, most: u32) -> u32
     ensures value { result ≡ adjusted_length most length }
     ensures fitting { IsFitting most result }
 {
-    let even = length - length % 2;
-    if even >= most {
-        most
-    } else if even >= LEAST {
-        even
-    } else {
-        LEAST
-    }
+    (length - length % 2).clamp(LEAST, most)
 }
 
 /// The bytes of a line of a picture; of a line of Y where Y stands apart.
 ///
 /// Source: Linux V4L2, struct v4l2_pix_format.
-#[tactic(auto, using(crate::proofs::SizeLemmas::area_most))]
 pub fn bytesperline(f: &Fmt) -> u32
     requires { IsAdjusted f.now }
     ensures { result ≡ line_length f.now }
@@ -61,7 +53,7 @@ pub fn bytesperline(f: &Fmt) -> u32
 /// The bytes of a picture.
 ///
 /// Source: Linux V4L2, struct v4l2_pix_format.
-#[tactic(auto, using(crate::proofs::SizeLemmas::area_most))]
+#[tactic(auto, using(crate::proofs::FmtLemmas::area_most))]
 pub fn sizeimage(f: &Fmt) -> u32
     requires { IsAdjusted f.now }
     ensures { result ≡ picture_size f.now }

@@ -1,4 +1,5 @@
 pub mod Bytes
+pub mod Counted
 pub mod Faults
 pub mod MemSink
 pub mod MemSource

@@ -8,7 +8,7 @@ use std::marker::Model;
 /// Which calls of an outside in memory are to fail, and how many came and failed so far.
 ///
 /// Calls are numbered from 1. The number stays at the end of 64 bits once it has come to it, and so
-/// does the count of faults. Source: own.
+/// does the count of faults.
 #[derive(Drop)]
 pub struct FaultPlan {
     fails: Vec<u64>,

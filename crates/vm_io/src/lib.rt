@@ -1,5 +1,5 @@
 //! The outside of the product: where its script comes from, where its text goes, and the device's
-//! working unit. Each may fail, and counts its faults.
+//! working unit. Each may fail, and counts its faults. The rules are this project's own.
 #![tactic(auto)]
 
 mod engine;
@@ -14,6 +14,8 @@ mod source;
 mod std_sink;
 mod std_source;
 mod sure_engine;
+#[cfg(test)]
+mod tests;
 mod writing;
 
 pub use engine::Engine;

@@ -1,7 +1,6 @@
 ghost use Rattle.std.specs.Prelude.{◌≡◌, ◌<◌, ◌≤◌, ◌↔◌, IfOk, OnOk, IsErrOf, IsSome, vec_len};
 ghost use Rattle.vm_io.specs.Bytes.{WasRead, SomeRead, NothingLeft, count_read};
 ghost use Rattle.vm_io.specs.Faults.{Rose};
-ghost use Rattle.vm_io.specs.declared.reading.ReadError.TheVariants.{ReadFault as read_fault, Memory as memory};
 
 use crate::{Failed, Source};
 use std::alloc::{AllocError, Global};
@@ -25,7 +24,9 @@ pub enum ReadError {
 }
 
 impl From<Failed> for ReadError {
-    ghost from_gives = { λ _ e. e ≡ read_fault };
+    ghost use Rattle.vm_io.specs.declared.reading.ReadError.TheVariants.{ReadFault};
+
+    ghost from_gives = { λ _ e. e ≡ ReadFault };
 
     fn from(_failed: Failed) -> ReadError {
         ReadError::ReadFault
@@ -33,7 +34,9 @@ impl From<Failed> for ReadError {
 }
 
 impl From<AllocError> for ReadError {
-    ghost from_gives = { λ _ e. e ≡ memory };
+    ghost use Rattle.vm_io.specs.declared.reading.ReadError.TheVariants.{Memory};
+
+    ghost from_gives = { λ _ e. e ≡ Memory };
 
     fn from(_refused: AllocError) -> ReadError {
         ReadError::Memory

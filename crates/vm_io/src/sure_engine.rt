@@ -7,6 +7,7 @@ use crate::{Engine, Failed};
 pub struct SureEngine;
 
 impl SureEngine {
+    /// The engine; it has no state.
     pub fn new() -> SureEngine {
         SureEngine
     }

@@ -18,6 +18,7 @@ impl From<Failed> for WriteFault {
 
 /// Writes all bytes, in order, and stops at the first fault. It takes no memory, and ends at every
 /// sink, since each write that doesn't fail takes at least one byte.
+#[tactic(auto, using(crate::proofs::BytesLemmas::followed_by_twice, crate::proofs::BytesLemmas::take_add_rest))]
 pub fn write_all<K: Sink>(sink: &mut K, bytes: &[u8]) -> Result<(), WriteFault>
     ensures all { OnOk result (WasAppended (K.held sink.old) (K.held sink.new) bytes.now) }
     ensures part { OnErr result (PartAppended (K.held sink.old) (K.held sink.new) bytes.now) }

@@ -1,4 +1,4 @@
-ghost use Rattle.std.specs.Prelude.{◌≡◌, ◌<◌, Contains};
+ghost use Rattle.std.specs.Prelude.{◌≡◌, ◌<◌, Contains, length};
 ghost use Rattle.vm_link.specs.Queue.{Queue, parcel_count, owners_of, posted, first_waiting, taken, finished, first_done, collected};
 
 use crate::{Finished, Parcel};
@@ -18,6 +18,14 @@ pub enum Turn {
 pub trait Link {
     /// The queue's room and its three lists.
     ghost queue: { Self → Queue };
+
+    /// How many parcels are posted and not taken.
+    fn untaken(&self) -> u16
+        ensures { result ≡ length (queue self.now).waiting };
+
+    /// How many parcels are finished and not collected.
+    fn uncollected(&self) -> u16
+        ensures { result ≡ length (queue self.now).done };
 
     /// The driver posts a parcel behind those that wait.
     fn post(&mut self, parcel: Parcel)

@@ -17,7 +17,7 @@ pub struct PlainLink {
 }
 
 impl Model for PlainLink {
-    ghost use Rattle.std.specs.Prelude.{◌≤◌, ◌+◌, length, vec_capacity};
+    ghost use Rattle.std.specs.Prelude.{◌≤◌, ◌<◌, ◌+◌, ◌^◌, length, vec_capacity};
     ghost use Rattle.std.specs.VecDeque.{deque_capacity};
     ghost use Rattle.vm_link.specs.Queue.{Queue};
 
@@ -26,7 +26,7 @@ impl Model for PlainLink {
     ghost view = { λ l. record { room = l.room; waiting = l.waiting.items; out = l.out.items; done = l.done.items } };
 
     // Each list has room for all that the queue has room for, so no call takes memory.
-    ghost invariant = { λ l. (l.room ≤ deque_capacity l.waiting) × (l.room ≤ vec_capacity l.out)
+    ghost invariant = { λ l. (l.room < 2 ^ 16) × (l.room ≤ deque_capacity l.waiting) × (l.room ≤ vec_capacity l.out)
         × (l.room ≤ deque_capacity l.done)
         × (length l.waiting.items + length l.out.items + length l.done.items ≤ l.room) };
 }
@@ -67,6 +67,16 @@ impl PlainLink {
 
 impl Link for PlainLink {
     ghost queue = { λ l. l };
+
+    fn untaken(&self) -> u16 {
+        let _room = self.room;
+        self.waiting.len() as u16
+    }
+
+    fn uncollected(&self) -> u16 {
+        let _room = self.room;
+        self.done.len() as u16
+    }
 
     fn post(&mut self, parcel: Parcel) {
         self.waiting.push_back(parcel).unwrap();

@@ -1,0 +1,2 @@
+pub mod GuestMemory
+pub mod Page

@@ -2,8 +2,14 @@ ghost use Rattle.std.specs.Prelude.{◌≡◌, ◌+◌, ◌<◌, ◌≤◌, ◌+
 
 /// A run of bytes of fixed length, however it is kept.
 pub trait Store {
+    /// What `rest_of` says.
+    ghost Rest: { Type 0 };
+
     /// The bytes in order.
     ghost bytes_of: { Self → List ℕ };
+
+    /// What the store is besides its bytes, as a page's number: no call changes it.
+    ghost rest_of: { Self → Rest };
 
     /// How many bytes there are.
     fn size(&self) -> u32
@@ -17,7 +23,8 @@ pub trait Store {
     /// Sets the byte at `i`, and no other.
     fn set(&mut self, i: u32, b: u8)
         requires { i < length (bytes_of self.old) }
-        ensures { bytes_of self.new ≡ slice_set (bytes_of self.old) i b };
+        ensures bytes { bytes_of self.new ≡ slice_set (bytes_of self.old) i b }
+        ensures rest { rest_of self.new ≡ rest_of self.old };
 
     /// Fills `into` with the bytes from `at` on.
     fn copy_out(&self, at: u32, into: &mut [u8])
@@ -36,7 +43,8 @@ pub trait Store {
     /// Sets the bytes from `at` on to those of `from`, and no others.
     fn copy_in(&mut self, at: u32, from: &[u8])
         requires { at + length from.now ≤ length (bytes_of self.old) }
-        ensures { bytes_of self.new ≡ take at (bytes_of self.old) ++ (from.now ++ drop (at + length from.now) (bytes_of self.old)) }
+        ensures bytes { bytes_of self.new ≡ take at (bytes_of self.old) ++ (from.now ++ drop (at + length from.now) (bytes_of self.old)) }
+        ensures rest { rest_of self.new ≡ rest_of self.old }
     {
         // The size fits its type, so no place wraps.
         let _size = self.size();

@@ -1,0 +1,100 @@
+-- One handle of the driver.
+use Rattle.std.specs.Prelude.{ℕ, ◌≡◌, Bool, true, false, List, [], ◌∷◌, ◌++◌, Option, Some, None, length, drop, unwrap_or}
+use Rattle.std.specs.List.{list_any}
+use Rattle.v4l_const.specs.Errno.{errno_number}
+use Rattle.v4l_const.specs.declared.errno.Errno.{Errno}
+use Rattle.v4l_const.specs.declared.errno.Errno.TheVariants.{Enomem, Ebadf}
+use Rattle.v4l_const.specs.declared.model.Model.{Model}
+use Rattle.vm_local.specs.declared.call.Call.{Call}
+use Rattle.vm_local.specs.declared.call.Call.TheVariants.{OpenHandle, CloseHandle}
+use Rattle.vm_local.specs.declared.entry.Entry.{Entry}
+use Rattle.vm_local.specs.declared.entry.Entry.TheVariants.{Called}
+use Rattle.vm_local.specs.declared.reply.Reply.{Reply}
+use Rattle.vm_local.specs.declared.reply.Reply.TheVariants.{Done, Refused}
+use Rattle.vm_local.specs.State.{LocalState, opening}
+use Rattle.vm_local.specs.Log.{replay, IsLegal}
+use Rattle.vm_wire.specs.Wire.{command_bytes}
+use Rattle.vm_wire.specs.declared.command.Command.{Command}
+use Rattle.vm_handle.specs.declared.handle.Started.{Started}
+use Rattle.vm_handle.specs.declared.handle.Started.TheVariants.{Answered, Send}
+use Rattle.vm_wire.specs.declared.response.Response.{Response}
+use Rattle.vm_wire.specs.declared.response.Response.TheVariants.{Refused as Denied, Opened, Closed}
+use Rattle.vm_handle.specs.Exchange.{command_of}
+
+-- The model, the log, the session's id where an open was answered ok, and how many entries there is room for.
+pub record HandleState : Type 0 where
+  pub model : Model
+  pub entries : List Entry
+  pub session : Option ℕ
+  pub room : ℕ
+
+-- a handle before its first line
+abbrev pub fresh_handle : Model → ℕ → HandleState
+fresh_handle model room = record { model = model; entries = []; session = None; room = room }
+
+-- the local handle's state after a log
+abbrev pub local_after : Model → List Entry → LocalState
+local_after model log = unwrap_or (replay model log) (opening model)
+
+abbrev pub local_of : HandleState → LocalState
+local_of h = local_after h.model h.entries
+
+-- the command by which a call of this handle crosses, if it does
+abbrev pub asks : HandleState → Call → Option Command
+asks h call = command_of (unwrap_or h.session 0) (local_of h) call
+
+-- the entry is an open that was answered ok
+abbrev pub opens_session : Entry → Bool
+opens_session (Called line (OpenHandle nonblock) Done) = true
+opens_session e = false
+
+-- an open was answered ok
+abbrev pub has_opened : List Entry → Bool
+has_opened log = list_any opens_session log
+
+-- What a handle's fields keep of its log: it is legal, the handle is open where the log leaves it so, and
+-- there is a session where an open was answered ok.
+pub record Keeps (m : Model) (log : List Entry) (is_open has_session : Bool) : Type 0 where
+  pub legal : IsLegal m log
+  pub opened : (local_after m log).opened ≡ is_open
+  pub session : has_session ≡ has_opened log
+
+-- the calls that are built: opening to wait, and closing
+abbrev pub IsBuilt : Call → Type 0
+IsBuilt (OpenHandle nonblock) = nonblock ≡ false
+IsBuilt CloseHandle = Unit {0}
+IsBuilt call = ⊥
+
+abbrev pub IsOpen : Call → Type 0
+IsOpen (OpenHandle nonblock) = Unit {0}
+IsOpen call = ⊥
+
+-- An open may want memory, and a close of a closed handle is refused.
+abbrev pub MayRefuse : LocalState → Call → Errno → Type 0
+MayRefuse s (OpenHandle nonblock) errno = errno ≡ Enomem
+MayRefuse s CloseHandle errno = (s.opened ≡ false) × (errno ≡ Ebadf)
+MayRefuse s call errno = ⊥
+
+abbrev pub with_entry : HandleState → ℕ → Call → Reply → HandleState
+with_entry h line call reply = record h { entries = h.entries ++ Called line call reply ∷ [] }
+
+-- the device may answer this to a call that crosses
+abbrev pub MayAnswer : Call → Response → Type 0
+MayAnswer (OpenHandle nonblock) (Opened session) = Unit {0}
+MayAnswer (OpenHandle nonblock) (Denied errno) = errno ≡ errno_number Enomem
+MayAnswer CloseHandle Closed = Unit {0}
+MayAnswer call response = ⊥
+
+-- the handle once a call that crossed is answered
+abbrev pub with_response : HandleState → ℕ → Call → Response → HandleState
+with_response h line call (Opened session) = record (with_entry h line call Done) { session = Some session }
+with_response h line call (Denied errno) = with_entry h line call (Refused Enomem)
+with_response h line call Closed = with_entry h line call Done
+
+-- A call is begun: where it crosses its command stands at the front of the bytes, else it is logged as
+-- refused, since the handle isn't open.
+abbrev pub Starts : Option Command → HandleState → ℕ → Call → List ℕ → Started → HandleState → List ℕ → Type 0
+Starts (Some command) h line call out started h' out' =
+    (started ≡ Send (length (command_bytes command))) × (h' ≡ h) × (out' ≡ command_bytes command ++ drop (length (command_bytes command)) out)
+Starts None h line call out started h' out' =
+    (started ≡ Answered) × (h' ≡ with_entry h line call (Refused Ebadf)) × (out' ≡ out)
