@@ -8,3 +8,4 @@ pub mod FormatLemmas
 pub mod PaddedPictureLemmas
 pub mod FrameLemmas
 pub mod KeptLemmas
+pub mod SameLemmas

@@ -92,7 +92,11 @@ impl Bytes {
 }
 
 impl Store for Bytes {
+    ghost Rest = { Unit {0} };
+
     ghost bytes_of = { λ b. b };
+
+    ghost rest_of = { λ _. tt };
 
     fn size(&self) -> u32 {
         self.len()

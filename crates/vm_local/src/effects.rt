@@ -37,8 +37,8 @@ impl Local {
             Call::Munmap { m } => self.unmap(m),
             Call::Poke { m, off, bytes } => self.write(m, *off, bytes.as_bytes()),
             Call::Fill { m, seed } => self.fill(m, *seed),
-            Call::Subscribe { e } => self.subscribe(*e),
-            Call::Unsubscribe { e } => self.unsubscribe(*e),
+            Call::Subscribe { e: _ } => self.subscribe(),
+            Call::Unsubscribe { e: _ } => self.unsubscribe(),
             Call::DqEvent => self.take_event(),
             Call::QueryCap
             | Call::EnumFmt { .. }

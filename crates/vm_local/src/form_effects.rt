@@ -49,19 +49,17 @@ impl Local {
 
     /// Wants events.
     #[tactic(auto, unfolding(crate::specs::Calls::subscribe_row))]
-    pub(crate) fn subscribe(&mut self, e: u32)
-        ensures { self.new ≡ (subscribe_row self.old e).next }
+    pub(crate) fn subscribe(&mut self)
+        ensures { (e : ℕ) → self.new ≡ (subscribe_row self.old e).next }
     {
-        let _wanted = e;
         self.subscribed = true;
     }
 
     /// Wants no events.
     #[tactic(auto, unfolding(crate::specs::Calls::unsubscribe_row))]
-    pub(crate) fn unsubscribe(&mut self, e: u32)
-        ensures { self.new ≡ (unsubscribe_row self.old e).next }
+    pub(crate) fn unsubscribe(&mut self)
+        ensures { (e : ℕ) → self.new ≡ (unsubscribe_row self.old e).next }
     {
-        let _unwanted = e;
         self.subscribed = false;
     }
 

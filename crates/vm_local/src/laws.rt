@@ -6,6 +6,9 @@ ghost use Rattle.vm_local.specs.declared.call.Call.{Call};
 ghost use Rattle.vm_local.specs.Owner.{owner_of, moves};
 ghost use Rattle.vm_local.specs.declared.call.Call.TheVariants.{OpenHandle, CloseHandle};
 ghost use Rattle.vm_local.specs.declared.entry.Entry.{Entry};
+ghost use Rattle.std.specs.Bool.{Decides};
+ghost use Rattle.vm_local.specs.Same.{same_reply};
+ghost use Rattle.vm_local.specs.declared.reply.Reply.{Reply};
 ghost use Rattle.vm_local.specs.declared.reply.Reply.TheVariants.{Done, Refused};
 ghost use Rattle.vm_local.specs.State.{LocalState};
 ghost use Rattle.vm_local.specs.Calls.{opened_anew, closed};
@@ -35,4 +38,9 @@ pub fn refusals_change_nothing()
 /// device; and `open` comes first in the log of a handle that is opened once.
 pub fn owners_move_at_few_entries()
     ensures { (s t : LocalState) (e : Entry) → moves e ≡ false → after s e ≡ Some t → (k i : ℕ) → owner_of t k i ≡ owner_of s k i }
+{}
+
+/// Two replies are tested to be the same exactly where they are equal.
+pub fn same_replies_are_equal()
+    ensures { (a b : Reply) → Decides (same_reply a b) (a ≡ b) }
 {}

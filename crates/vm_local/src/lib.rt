@@ -39,6 +39,7 @@ pub use call::Call;
 pub use entry::Entry;
 pub use laws::{
     open_and_close, owners_move_at_few_entries, refusals_change_nothing, replay_of_an_append,
+    same_replies_are_equal,
 };
 pub use local::Local;
 pub use name::{NAME_LIMIT, Name};
