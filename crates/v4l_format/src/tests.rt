@@ -19,7 +19,11 @@ struct Block {
 }
 
 impl Store for Block {
+    ghost Rest = { Unit {0} };
+
     ghost bytes_of = { λ b. b.bytes };
+
+    ghost rest_of = { λ _. tt };
 
     fn size(&self) -> u32 {
         768

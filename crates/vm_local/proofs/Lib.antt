@@ -1,2 +1,11 @@
 pub mod LogLemmas
 pub mod PaddedLemmas
+pub mod SizesLemmas
+pub mod BytesLemmas
+pub mod RangeLemmas
+pub mod ModelLemmas
+pub mod FormatLemmas
+pub mod PaddedPictureLemmas
+pub mod FrameLemmas
+pub mod KeptLemmas
+pub mod SameLemmas

@@ -1,13 +1,13 @@
 -- The calls of a handle: for each its refusals in the order in which they are tried, and else its reply and the state
 -- after it. What they do is this project's own, after the Linux V4L2 interface.
-use Rattle.std.specs.Prelude.{ℕ, Bool, true, false, not, List, [], ◌∷◌, ◌++◌, map, length, take, drop, replicate, ◌+◌, ◌*◌, ◌%◌, ◌&&◌, ◌||◌, ◌==◌, if◌then◌else◌, nat_lt, slice_index_or, Option, Some, None, is_some}
+use Rattle.std.specs.Prelude.{ℕ, Bool, true, false, not, List, [], ◌∷◌, ◌++◌, map, length, take, drop, replicate, ◌+◌, ◌*◌, ◌%◌, ◌&&◌, ◌||◌, ◌==◌, nat_lt, slice_index_or, Option, Some, None, is_some}
 use Rattle.std.specs.Option.{unwrap_or}
 use Rattle.std.specs.List.{range_with_len}
 use Rattle.sha2.specs.Sha256.{sha256}
 use Rattle.v4l_const.specs.declared.errno.Errno.{Errno}
 use Rattle.v4l_const.specs.declared.errno.Errno.TheVariants.{Enoent, Ebadf, Eagain, Eacces, Efault, Ebusy, Einval, Enotty, Edeadlk}
 use Rattle.v4l_const.specs.declared.four_cc.FourCc.{FourCc}
-use Rattle.v4l_const.specs.Model.{queues as types_of, capabilities, device_capabilities, has_inputs, has_events}
+use Rattle.v4l_const.specs.Model.{capabilities, device_capabilities, has_inputs, has_events}
 use Rattle.v4l_format.specs.declared.fmt.Fmt.{Fmt}
 use Rattle.v4l_format.specs.Fmt.{line_length, picture_size}
 use Rattle.v4l_format.specs.FormatRow.{formats_of, grey}
@@ -20,8 +20,9 @@ use Rattle.vm_local.specs.declared.owed.SyncEvent.{SyncEvent}
 use Rattle.vm_local.specs.declared.reply.Reply.{Reply}
 use Rattle.vm_local.specs.declared.reply.Reply.TheVariants.{Done, Caps, Code, Format, InputName, InputIs, Count, Buf, Pages, Frame, Mapped, Bytes, Digest, Event}
 use Rattle.vm_local.specs.State.{QueueState, LocalState, opening, has_type, queue_of, with_queue, buffer_of}
-use Rattle.vm_local.specs.Memory.{named, is_mapping, is_user, is_writable, memory_of, unbound, with_bound, bytes_of, with_bytes, pages_of, is_idle, is_lent, is_in_use}
-use Rattle.vm_local.specs.Queue.{is_empty, is_source, has_buffers, is_streaming, adjusted_for, with_set_format, stopped_queue, stopped, is_user_ptr, memory_kind, granted, with_buffers, brought, length_from, with_queued, started, first_done, taken_back, is_owed, can_finish, flags_of}
+use Rattle.vm_local.specs.Memory.{named, is_mapping, is_user, is_writable, memory_of, unbound, with_bound, bytes_of, with_bytes, pages_of, is_lent, is_in_use}
+use Rattle.vm_local.specs.Kinds.{is_idle}
+use Rattle.vm_local.specs.Queue.{is_empty, is_source, has_buffers, is_streaming, adjusted_for, with_set_format, stopped_queue, stopped, is_user_ptr, memory_kind, granted, with_buffers, brought, length_from, with_queued, started, made_idle, first_done, taken_back, is_owed, can_finish, flags_of}
 
 -- a row of the table of calls
 pub record Row : Type 0 where
@@ -81,10 +82,10 @@ close_row s = row (not_open s ∷ []) Done (closed s)
 
 -- ---- what the device is, formats and inputs
 
-abbrev pub querycap_row : LocalState → Row
+unfoldable pub querycap_row : LocalState → Row
 querycap_row s = row (not_open s ∷ []) (Caps (capabilities s.model) (device_capabilities s.model)) s
 
-abbrev pub enumfmt_row : LocalState → ℕ → ℕ → Row
+unfoldable pub enumfmt_row : LocalState → ℕ → ℕ → Row
 enumfmt_row s t i =
     row
     (not_open s ∷ no_type s t ∷ (not (nat_lt i (length (formats_of s.model))), Einval) ∷ [])
@@ -93,43 +94,43 @@ enumfmt_row s t i =
 abbrev pub format_reply : Fmt → Reply
 format_reply f = Format f (line_length f) (picture_size f)
 
-abbrev pub gfmt_row : LocalState → ℕ → Row
+unfoldable pub gfmt_row : LocalState → ℕ → Row
 gfmt_row s t = row (not_open s ∷ no_type s t ∷ []) (format_reply (queue_of s t).format) s
 
-abbrev pub tryfmt_row : LocalState → ℕ → FourCc → ℕ → ℕ → Row
+unfoldable pub tryfmt_row : LocalState → ℕ → FourCc → ℕ → ℕ → Row
 tryfmt_row s t f w h = row (not_open s ∷ no_type s t ∷ []) (format_reply (adjusted_for s t f w h)) s
 
-abbrev pub sfmt_row : LocalState → ℕ → FourCc → ℕ → ℕ → Row
+unfoldable pub sfmt_row : LocalState → ℕ → FourCc → ℕ → ℕ → Row
 sfmt_row s t f w h =
     row
     (not_open s ∷ no_type s t ∷ (has_buffers s, Ebusy) ∷ [])
     (format_reply (adjusted_for s t f w h)) (with_set_format s t (adjusted_for s t f w h))
 
-abbrev pub enuminput_row : LocalState → ℕ → Row
+unfoldable pub enuminput_row : LocalState → ℕ → Row
 enuminput_row s i = row (not_open s ∷ no_inputs s ∷ no_input i ∷ []) (InputName i) s
 
-abbrev pub ginput_row : LocalState → Row
+unfoldable pub ginput_row : LocalState → Row
 ginput_row s = row (not_open s ∷ no_inputs s ∷ []) (InputIs s.input) s
 
-abbrev pub sinput_row : LocalState → ℕ → Row
+unfoldable pub sinput_row : LocalState → ℕ → Row
 sinput_row s i =
     row (not_open s ∷ no_inputs s ∷ no_input i ∷ (is_streaming s, Ebusy) ∷ []) (InputIs i) (record s { input = i })
 
 -- ---- buffers
 
-abbrev pub reqbufs_row : LocalState → ℕ → ℕ → ℕ → Row
+unfoldable pub reqbufs_row : LocalState → ℕ → ℕ → ℕ → Row
 reqbufs_row s t m n =
     row_with_memory
     (nat_lt 0 n)
     (not_open s ∷ no_type s t ∷ (not (m == 1 || m == 2), Einval) ∷ (nat_lt 0 n && (queue_of s t).streaming, Ebusy) ∷ [])
     (Count (granted n)) (with_buffers s t (memory_kind m) (granted n))
 
-abbrev pub querybuf_row : LocalState → ℕ → ℕ → Row
+unfoldable pub querybuf_row : LocalState → ℕ → ℕ → Row
 querybuf_row s t i =
     let b : Buffer = buffer_of (queue_of s t) i in
     row (not_open s ∷ no_type s t ∷ no_index s t i ∷ []) (Buf b.length (flags_of s b)) s
 
-abbrev pub ualloc_row : LocalState → ℕ → List ℕ → ℕ → ℕ → Row
+unfoldable pub ualloc_row : LocalState → ℕ → List ℕ → ℕ → ℕ → Row
 ualloc_row s line u len off =
     row_with_memory
     true
@@ -148,7 +149,7 @@ abbrev pub brings_used : LocalState → Option ℕ → Bool
 brings_used s None = false
 brings_used s (Some m) = is_in_use s m
 
-abbrev pub qbuf_row : LocalState → ℕ → ℕ → Option (List ℕ) → ℕ → ℕ → Row
+unfoldable pub qbuf_row : LocalState → ℕ → ℕ → Option (List ℕ) → ℕ → ℕ → Row
 qbuf_row s t i user used ts =
     let q : QueueState = queue_of s t in
     let b : Buffer = buffer_of q i in
@@ -166,31 +167,34 @@ qbuf_row s t i user used ts =
     (is_source s t && nat_lt (length_from s memory b) used, Einval) ∷ [])
     Done (with_queued s t i memory used ts)
 
-abbrev pub streamon_row : LocalState → ℕ → Row
+unfoldable pub streamon_row : LocalState → ℕ → Row
 streamon_row s t =
     row
     (not_open s ∷ no_type s t ∷ (is_empty (queue_of s t).buffers, Einval) ∷ [])
     Done (with_queue s t (started (queue_of s t)))
 
-abbrev pub streamoff_row : LocalState → ℕ → Row
+unfoldable pub streamoff_row : LocalState → ℕ → Row
 streamoff_row s t = row (not_open s ∷ no_type s t ∷ []) Done (stopped s t)
 
-abbrev pub dqbuf_row : LocalState → ℕ → Row
+-- the buffer that a dqbuf gives back, Idle
+abbrev pub given_back : QueueState → Buffer
+given_back q = made_idle (buffer_of q (first_done q))
+
+unfoldable pub dqbuf_row : LocalState → ℕ → Row
 dqbuf_row s t =
     let q : QueueState = queue_of s t in
-    let next : LocalState = with_queue s t (taken_back q) in
-    let b : Buffer = buffer_of (taken_back q) (first_done q) in
+    let b : Buffer = given_back q in
     record (row
     (not_open s ∷
     no_type s t ∷
     (not q.streaming, Einval) ∷
     (not s.blocking && is_empty q.done, Eagain) ∷
     (s.blocking && is_empty q.done && not (is_owed s t) && not (can_finish s), Edeadlk) ∷ [])
-    (Frame (first_done q) b.used b.sequence b.timestamp (flags_of next b)) next) { waits = is_empty q.done }
+    (Frame (first_done q) b.used b.sequence b.timestamp (flags_of s b)) (with_queue s t (taken_back q))) { waits = is_empty q.done }
 
 -- ---- mappings and bytes
 
-abbrev pub mmap_row : LocalState → ℕ → List ℕ → ℕ → ℕ → Bool → Row
+unfoldable pub mmap_row : LocalState → ℕ → List ℕ → ℕ → ℕ → Bool → Row
 mmap_row s addr m t i ro =
     let b : Buffer = buffer_of (queue_of s t) i in
     row_with_memory
@@ -199,10 +203,10 @@ mmap_row s addr m t i ro =
     (Mapped addr b.length)
     (with_bound s (record { name = m; memory = unwrap_or b.memory 0; kind = Mapping addr b.length (not ro) }))
 
-abbrev pub munmap_row : LocalState → List ℕ → Row
+unfoldable pub munmap_row : LocalState → List ℕ → Row
 munmap_row s m = row ((not (is_mapping (named s m)), Einval) ∷ []) Done (unbound s m)
 
-abbrev pub read_row : LocalState → List ℕ → ℕ → ℕ → Row
+unfoldable pub read_row : LocalState → List ℕ → ℕ → ℕ → Row
 read_row s m off len =
     let memory : ℕ = memory_of (named s m) in
     let bytes : List ℕ = bytes_of s memory in
@@ -210,12 +214,12 @@ read_row s m off len =
     (not_bound s m ∷ (nat_lt (length bytes) (off + len), Efault) ∷ (is_lent s memory, Ebusy) ∷ [])
     (Bytes (take len (drop off bytes))) s
 
-abbrev pub hash_row : LocalState → List ℕ → Row
+unfoldable pub hash_row : LocalState → List ℕ → Row
 hash_row s m =
     let memory : ℕ = memory_of (named s m) in
     row (not_bound s m ∷ (is_lent s memory, Ebusy) ∷ []) (Digest (sha256 (bytes_of s memory))) s
 
-abbrev pub write_row : LocalState → List ℕ → ℕ → List ℕ → Row
+unfoldable pub write_row : LocalState → List ℕ → ℕ → List ℕ → Row
 write_row s m off bytes =
     let memory : ℕ = memory_of (named s m) in
     let old : List ℕ = bytes_of s memory in
@@ -224,13 +228,13 @@ write_row s m off bytes =
     (nat_lt (length old) (off + length bytes), Efault) ∷
     (not (is_writable (named s m)), Eacces) ∷
     (is_in_use s memory, Ebusy) ∷ [])
-    Done (with_bytes s memory (take off old ++ bytes ++ drop (off + length bytes) old))
+    Done (with_bytes s memory (take off old ++ (bytes ++ drop (off + length bytes) old)))
 
 -- n bytes, byte i of which is 7 i + seed modulo 256
 abbrev pub seeded : ℕ → ℕ → List ℕ
 seeded seed n = map (λ i. (7 * i + seed) % 256) (range_with_len 0 n)
 
-abbrev pub fill_row : LocalState → List ℕ → ℕ → Row
+unfoldable pub fill_row : LocalState → List ℕ → ℕ → Row
 fill_row s m seed =
     let memory : ℕ = memory_of (named s m) in
     row
@@ -239,11 +243,11 @@ fill_row s m seed =
 
 -- ---- events: FRAME_SYNC is 4, and 0 stands for all; Source: Linux V4L2, struct v4l2_event_subscription
 
-abbrev pub subscribe_row : LocalState → ℕ → Row
+unfoldable pub subscribe_row : LocalState → ℕ → Row
 subscribe_row s e =
     row (not_open s ∷ (not (has_events s.model) || not (e == 4), Einval) ∷ []) Done (record s { subscribed = true })
 
-abbrev pub unsubscribe_row : LocalState → ℕ → Row
+unfoldable pub unsubscribe_row : LocalState → ℕ → Row
 unsubscribe_row s e =
     row
     (not_open s ∷ (not (has_events s.model) || not (e == 0 || e == 4), Einval) ∷ [])
@@ -252,7 +256,7 @@ unsubscribe_row s e =
 abbrev pub first_event : LocalState → SyncEvent
 first_event s = slice_index_or s.events 0 (record { frame = 0; number = 0 })
 
-abbrev pub dqevent_row : LocalState → Row
+unfoldable pub dqevent_row : LocalState → Row
 dqevent_row s =
     row
     (not_open s ∷ (is_empty s.events, Enoent) ∷ [])

@@ -1,8 +1,11 @@
 pub mod Text
 pub mod State
 pub mod Same
+pub mod Kinds
 pub mod Memory
 pub mod Queue
 pub mod Calls
 pub mod Steps
 pub mod Log
+pub mod Sizes
+pub mod Owner

@@ -1,5 +1,5 @@
 -- Which logs are legal, and the state that they lead to.
-use Rattle.std.specs.Prelude.{◌≡◌, ℕ, Bool, not, List, [], ◌∷◌, ◌&&◌, if◌then◌else◌, Option, Some, None, IsSome}
+use Rattle.std.specs.Prelude.{◌≡◌, ℕ, Bool, true, false, not, List, [], ◌∷◌, ◌&&◌, if◌then◌else◌, Option, Some, None, IsSome}
 use Rattle.std.specs.Option.{option_and_then}
 use Rattle.v4l_const.specs.declared.errno.Errno.{Errno}
 use Rattle.v4l_const.specs.declared.errno.Errno.TheVariants.{Enomem}
@@ -8,9 +8,9 @@ use Rattle.vm_local.specs.declared.call.Call.{Call}
 use Rattle.vm_local.specs.declared.entry.Entry.{Entry}
 use Rattle.vm_local.specs.declared.entry.Entry.TheVariants.{Called, Finish, Bad, Give}
 use Rattle.vm_local.specs.declared.reply.Reply.{Reply}
-use Rattle.vm_local.specs.declared.reply.Reply.TheVariants.{Done, Refused, Caps, Code, Format, InputName, InputIs, Count, Buf, Pages, Frame, Mapped, Bytes, Digest, Event}
+use Rattle.vm_local.specs.declared.reply.Reply.TheVariants.{Refused}
 use Rattle.vm_local.specs.State.{LocalState, opening}
-use Rattle.vm_local.specs.Same.{same_reply}
+use Rattle.vm_local.specs.Same.{same_reply, address_in}
 use Rattle.vm_local.specs.Calls.{Row, row_of}
 use Rattle.vm_local.specs.Steps.{finished, marked_bad, given}
 
@@ -27,11 +27,6 @@ answered (Some e) row s reply = if same_reply (Refused e) reply then Some s else
 answered None row s reply =
     if row.may_lack_memory && same_reply (Refused Enomem) reply then Some s else (
     if not row.waits && same_reply row.reply reply then Some row.next else None)
-
--- the address in a reply: it is free
-abbrev pub address_in : Reply → ℕ
-address_in (Mapped addr len) = addr
-address_in reply = 0
 
 abbrev pub row_for : LocalState → ℕ → Call → Reply → Row
 row_for s line call reply = row_of s line (address_in reply) call
@@ -64,3 +59,8 @@ replay m log = replay_from (opening m) log
 
 abbrev pub IsLegal : Model → List Entry → Type 0
 IsLegal m log = IsSome (replay m log)
+
+-- what a step leaves: the next state, and that it was done; or else all as it was, and that it wasn't
+abbrev pub Stepped : Option LocalState → LocalState → LocalState → Bool → Type 0
+Stepped None old new done = (done ≡ false) × (new ≡ old)
+Stepped (Some next) old new done = (done ≡ true) × (new ≡ next)

@@ -1,28 +1,20 @@
 -- The names that a handle has bound, and the memories behind them.
-use Rattle.std.specs.Prelude.{ℕ, Bool, true, false, not, List, [], ◌∷◌, ◌++◌, length, ◌+◌, ◌/◌, ◌&&◌, ◌==◌, if◌then◌else◌, slice_index_or, slice_set, Option, Some, None}
-use Rattle.std.specs.List.{list_any}
+use Rattle.std.specs.Prelude.{ℕ, Bool, false, not, List, [], ◌∷◌, ◌++◌, ◌+◌, ◌/◌, ◌&&◌, ◌==◌, slice_index_or, slice_set, Option, Some, None}
+use Rattle.std.specs.List.{list_any, find, filter}
 use Rattle.std.specs.Str.{bytes_eq}
 use Rattle.vm_local.specs.declared.bound.Bound.{Bound}
-use Rattle.vm_local.specs.declared.bound.BoundKind.{BoundKind}
-use Rattle.vm_local.specs.declared.bound.BoundKind.TheVariants.{Mapping, User}
 use Rattle.vm_local.specs.declared.buffer.Buffer.{Buffer}
-use Rattle.vm_local.specs.declared.buffer.BufferState.{BufferState}
-use Rattle.vm_local.specs.declared.buffer.BufferState.TheVariants.{Idle, Queued, Owed, Done}
-use Rattle.vm_local.specs.State.{QueueState, LocalState}
+use Rattle.vm_local.specs.State.{LocalState}
+use Rattle.vm_local.specs.Kinds.{is_idle, is_away, is_mapping_kind, is_writable_kind}
 
 -- ---- bound names
 
 -- what a name is bound to
 abbrev pub named_in : List Bound → List ℕ → Option Bound
-named_in [] name = None
-named_in (b ∷ bs) name = if bytes_eq b.name name then Some b else named_in bs name
+named_in bound name = find (λ b. bytes_eq b.name name) bound
 
 abbrev pub named : LocalState → List ℕ → Option Bound
 named s name = named_in s.bound name
-
-abbrev pub is_mapping_kind : BoundKind → Bool
-is_mapping_kind (Mapping addr len writable) = true
-is_mapping_kind (User line off) = false
 
 abbrev pub is_mapping : Option Bound → Bool
 is_mapping None = false
@@ -31,11 +23,6 @@ is_mapping (Some b) = is_mapping_kind b.kind
 abbrev pub is_user : Option Bound → Bool
 is_user None = false
 is_user (Some b) = not (is_mapping_kind b.kind)
-
--- user memory may always be written
-abbrev pub is_writable_kind : BoundKind → Bool
-is_writable_kind (Mapping addr len writable) = writable
-is_writable_kind (User line off) = true
 
 abbrev pub is_writable : Option Bound → Bool
 is_writable None = false
@@ -47,8 +34,7 @@ memory_of None = 0
 memory_of (Some b) = b.memory
 
 abbrev pub without_name : List Bound → List ℕ → List Bound
-without_name [] name = []
-without_name (b ∷ bs) name = if bytes_eq b.name name then without_name bs name else b ∷ without_name bs name
+without_name bound name = filter (λ b. not (bytes_eq b.name name)) bound
 
 abbrev pub unbound : LocalState → List ℕ → LocalState
 unbound s name = record s { bound = without_name s.bound name }
@@ -75,25 +61,6 @@ pages_of n = (n + 4095) / 4096
 abbrev pub is_just : Option ℕ → ℕ → Bool
 is_just None n = false
 is_just (Some m) n = m == n
-
-abbrev pub is_idle : BufferState → Bool
-is_idle Idle = true
-is_idle Queued = false
-is_idle Owed = false
-is_idle Done = false
-
--- the buffer is Queued or Owed
-abbrev pub is_away : BufferState → Bool
-is_away Idle = false
-is_away Queued = true
-is_away Owed = true
-is_away Done = false
-
-abbrev pub is_done : BufferState → Bool
-is_done Idle = false
-is_done Queued = false
-is_done Owed = false
-is_done Done = true
 
 -- one of the handle's buffers passes the test
 abbrev pub some_buffer : (Buffer → Bool) → LocalState → Bool

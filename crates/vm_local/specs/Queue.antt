@@ -1,7 +1,7 @@
 -- What the calls do to the queues of a handle.
-use Rattle.std.specs.Prelude.{ℕ, Bool, true, false, not, ◌&&◌, List, [], ◌∷◌, ◌++◌, map, length, drop, min, replicate, ◌+◌, ◌%◌, ◌^◌, ◌==◌, if◌then◌else◌, slice_index, Option, Some, None, is_some}
+use Rattle.std.specs.Prelude.{ℕ, Bool, true, false, not, ◌&&◌, List, [], ◌∷◌, ◌++◌, map, length, drop, min, replicate, ◌+◌, ◌==◌, if◌then◌else◌, slice_index, Option, Some, None}
 use Rattle.std.specs.List.{list_any, list_all, filter, range_with_len}
-use Rattle.v4l_const.specs.Model.{queues as types_of, source_queue, picture_queue, timestamp_flag}
+use Rattle.v4l_const.specs.Model.{source_queue, picture_queue, timestamp_flag}
 use Rattle.v4l_const.specs.declared.four_cc.FourCc.{FourCc}
 use Rattle.v4l_format.specs.declared.fmt.Fmt.{Fmt}
 use Rattle.v4l_format.specs.Fmt.{adjusted, picture_size}
@@ -9,8 +9,10 @@ use Rattle.vm_local.specs.declared.bound.MemoryKind.{MemoryKind}
 use Rattle.vm_local.specs.declared.bound.MemoryKind.TheVariants.{Mmap, UserPtr}
 use Rattle.vm_local.specs.declared.buffer.Buffer.{Buffer}
 use Rattle.vm_local.specs.declared.buffer.BufferState.TheVariants.{Idle, Queued}
+use Rattle.vm_local.specs.declared.owed.Owed.{Owed}
 use Rattle.vm_local.specs.State.{QueueState, LocalState, queue_of, with_queue, no_buffer, buffer_of, with_buffer}
-use Rattle.vm_local.specs.Memory.{is_just, is_away, is_done, is_mapped, bytes_of, memory_of, named}
+use Rattle.vm_local.specs.Memory.{is_just, is_mapped, bytes_of, memory_of, named}
+use Rattle.vm_local.specs.Kinds.{is_away, is_done}
 
 abbrev pub is_empty : {A : Type 0} → List A → Bool
 is_empty [] = true
@@ -22,6 +24,10 @@ is_source s t = is_just (source_queue s.model) t
 
 -- ---- formats
 
+-- a format with the size of another
+abbrev pub sized_as : Fmt → Fmt → Fmt
+sized_as size f = record { code = f.code; width = size.width; height = size.height }
+
 -- a queue of the handle has buffers
 abbrev pub has_buffers : LocalState → Bool
 has_buffers s = list_any (λ q. not (is_empty q.buffers)) s.queues
@@ -30,12 +36,11 @@ has_buffers s = list_any (λ q. not (is_empty q.buffers)) s.queues
 abbrev pub is_streaming : LocalState → Bool
 is_streaming s = list_any (λ q. q.streaming) s.queues
 
--- the size of a picture that is made from a source picture is that of the source, whatever is asked for
+-- a picture that is made from a source picture has its size, whatever is asked for
 abbrev pub adjusted_from : Option ℕ → LocalState → ℕ → FourCc → ℕ → ℕ → Fmt
 adjusted_from None s t f w h = adjusted f w h
 adjusted_from (Some source) s t f w h =
-    if t == picture_queue s.model then adjusted f (queue_of s source).format.width (queue_of s source).format.height
-    else adjusted f w h
+    if t == picture_queue s.model then sized_as (queue_of s source).format (adjusted f w h) else adjusted f w h
 
 -- the format that a queue takes where it is asked for this one
 abbrev pub adjusted_for : LocalState → ℕ → FourCc → ℕ → ℕ → Fmt
@@ -45,7 +50,7 @@ abbrev pub with_format : LocalState → ℕ → Fmt → LocalState
 with_format s t f = with_queue s t (record (queue_of s t) { format = f })
 
 -- a source's new format gives the pictures made from it their size
-abbrev pub with_set_format : LocalState → ℕ → Fmt → LocalState
+unfoldable pub with_set_format : LocalState → ℕ → Fmt → LocalState
 with_set_format s t f =
     if is_source s t then
     with_format (with_format s t f) (picture_queue s.model)
@@ -60,10 +65,13 @@ made_idle b = record b { state = Idle }
 abbrev pub stopped_queue : QueueState → QueueState
 stopped_queue q = record q { streaming = false; buffers = map made_idle q.buffers; queued = []; done = [] }
 
+-- what is owed of other queues
+abbrev pub owed_by_others : LocalState → ℕ → List Owed
+owed_by_others s t = filter (λ o. not (o.queue == t)) s.owed
+
 -- not streaming, all buffers Idle, and the queued, done and owed entries gone
 abbrev pub stopped : LocalState → ℕ → LocalState
-stopped s t =
-    record (with_queue s t (stopped_queue (queue_of s t))) { owed = filter (λ o. not (o.queue == t)) s.owed }
+stopped s t = record (with_queue s t (stopped_queue (queue_of s t))) { owed = owed_by_others s t }
 
 -- ---- buffers made and freed
 
@@ -94,14 +102,14 @@ abbrev pub granted : ℕ → ℕ
 granted n = min n 32
 
 -- the queue stopped, its buffers freed, and n others made
-abbrev pub with_buffers : LocalState → ℕ → MemoryKind → ℕ → LocalState
+unfoldable pub with_buffers : LocalState → ℕ → MemoryKind → ℕ → LocalState
 with_buffers s t kind n =
     let size : ℕ = picture_size (queue_of s t).format in
     let q : QueueState = record (stopped_queue (queue_of s t)) {
       memory = kind;
       buffers = fresh_buffers kind size (length s.memories) n;
     } in
-    record (with_queue (stopped s t) t q) { memories = s.memories ++ fresh_memories kind size n }
+    record (with_queue s t q) { owed = owed_by_others s t; memories = s.memories ++ fresh_memories kind size n }
 
 -- ---- queueing
 
@@ -121,7 +129,7 @@ memory_from (Some m) b = Some m
 
 -- the buffer as its qbuf leaves it, without the mark of a failed frame. A source's buffer takes the words `used` and
 -- `ts`, where a `used` of 0 means the buffer's length
-abbrev pub queued_buffer : LocalState → ℕ → Option ℕ → ℕ → ℕ → Buffer → Buffer
+unfoldable pub queued_buffer : LocalState → ℕ → Option ℕ → ℕ → ℕ → Buffer → Buffer
 queued_buffer s t memory used ts b =
     let len : ℕ = length_from s memory b in
     record b {
@@ -150,7 +158,7 @@ abbrev pub first_done : QueueState → ℕ
 first_done q = slice_index q.done 0
 
 abbrev pub taken_back : QueueState → QueueState
-taken_back q = record (with_buffer q (first_done q) (record (buffer_of q (first_done q)) { state = Idle })) { done = drop 1 q.done }
+taken_back q = record (with_buffer q (first_done q) (made_idle (buffer_of q (first_done q)))) { done = drop 1 q.done }
 
 -- an entry of this queue is owed
 abbrev pub is_owed : LocalState → ℕ → Bool
@@ -166,7 +174,7 @@ abbrev pub flag : ℕ → Bool → ℕ
 flag bit on = if on then bit else 0
 
 -- MAPPED 1, QUEUED 2, DONE 4, ERROR 0x40 and the model's timestamp flag; Source: Linux V4L2, "Buffer Flags"
-abbrev pub flags_of : LocalState → Buffer → ℕ
+unfoldable pub flags_of : LocalState → Buffer → ℕ
 flags_of s b =
     flag 1 (is_mapped s b.memory) + flag 2 (is_away b.state) + flag 4 (is_done b.state) + flag 64 b.is_bad +
     timestamp_flag s.model

@@ -1,4 +1,4 @@
--- When two replies are the same.
+-- When two replies are the same, and what is free in a reply.
 use Rattle.std.specs.Prelude.{ℕ, Bool, List, [], ◌∷◌}
 use Rattle.std.specs.Str.{bytes_eq}
 use Rattle.v4l_const.specs.Errno.{errno_number}
@@ -26,3 +26,8 @@ reply_numbers (Event kind frame pending seq) = 14 ∷ kind ∷ frame ∷ pending
 -- two replies are the same where their numbers are
 abbrev pub same_reply : Reply → Reply → Bool
 same_reply a b = bytes_eq (reply_numbers a) (reply_numbers b)
+
+-- the address in a reply: it is free
+abbrev pub address_in : Reply → ℕ
+address_in (Mapped addr len) = addr
+address_in reply = 0

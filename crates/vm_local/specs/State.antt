@@ -1,7 +1,7 @@
 -- The state of one V4L2 handle, in plain lists and numbers.
-use Rattle.std.specs.Prelude.{ℕ, Bool, true, false, List, [], ◌∷◌, map, length, ◌+◌, ◌==◌, if◌then◌else◌, nat_lt, slice_index_or, slice_set, Option, Some, None}
+use Rattle.std.specs.Prelude.{ℕ, Bool, true, false, List, [], ◌∷◌, map, length, ◌+◌, ◌==◌, if◌then◌else◌, nat_lt, slice_index_or, slice_set, None}
 use Rattle.v4l_const.specs.declared.model.Model.{Model}
-use Rattle.v4l_const.specs.Model.{queues as types_of, source_queue, picture_queue}
+use Rattle.v4l_const.specs.Model.{queues as types_of}
 use Rattle.v4l_format.specs.declared.fmt.Fmt.{Fmt}
 use Rattle.v4l_format.specs.FormatRow.{grey}
 use Rattle.vm_local.specs.declared.bound.Bound.{Bound}

@@ -1,7 +1,7 @@
 -- The steps that the device makes of its own.
-use Rattle.std.specs.Prelude.{ℕ, Bool, true, false, not, List, [], ◌∷◌, ◌++◌, map, drop, ◌+◌, ◌*◌, ◌%◌, ◌^◌, ◌&&◌, if◌then◌else◌, slice_index, Option, Some, None, ◌||◌, ◌==◌}
+use Rattle.std.specs.Prelude.{ℕ, Bool, true, false, not, List, [], ◌∷◌, ◌++◌, map, drop, ◌+◌, ◌*◌, ◌%◌, ◌^◌, if◌then◌else◌, slice_index, Option, Some, None, ◌||◌}
 use Rattle.std.specs.Option.{unwrap_or}
-use Rattle.v4l_const.specs.Model.{queues as types_of, source_queue, picture_queue, copies_timestamps, has_events}
+use Rattle.v4l_const.specs.Model.{queues as types_of, source_queue, picture_queue, has_events}
 use Rattle.v4l_format.specs.Fmt.{picture_size}
 use Rattle.v4l_format.specs.Picture.{pattern_picture, converted_picture}
 use Rattle.vm_local.specs.declared.buffer.Buffer.{Buffer}
@@ -52,20 +52,21 @@ timestamp_from (Some t) s = (head_buffer (queue_of s t)).timestamp
 abbrev pub next_timestamp : LocalState → ℕ
 next_timestamp s = timestamp_from (source_queue s.model) s
 
--- a queue whose first queued buffer a frame took: the buffer has the frame's number and timestamp and is owed, and a
--- buffer for pictures has the picture's bytes in use, or none where the frame failed
-abbrev pub taken : LocalState → Bool → ℕ → QueueState
-taken s good t =
-    let q : QueueState = queue_of s t in
-    let b : Buffer = head_buffer q in
-    record (with_buffer q (head q) (record b {
-      state = AsOwed;
-      sequence = q.next_sequence;
-      timestamp = next_timestamp s;
-      is_bad = b.is_bad || not good;
-      used = if t == picture_queue s.model then (if good then picture_size q.format else 0) else b.used;
-    }))
+-- a buffer that a frame took: it has the frame's number in its queue and the frame's timestamp, the mark of a failed
+-- frame where this one failed, and is owed
+abbrev pub taken_buffer : Bool → ℕ → ℕ → Buffer → Buffer
+taken_buffer good sequence timestamp b =
+    record b { state = AsOwed; sequence = sequence; timestamp = timestamp; is_bad = b.is_bad || not good }
+
+-- a queue whose first queued buffer a frame took
+abbrev pub taken : Bool → ℕ → QueueState → QueueState
+taken good timestamp q =
+    record (with_buffer q (head q) (taken_buffer good q.next_sequence timestamp (head_buffer q)))
     { queued = drop 1 q.queued; next_sequence = counted q.next_sequence }
+
+-- the bytes in use of a queue's buffer
+abbrev pub with_used : QueueState → ℕ → ℕ → QueueState
+with_used q i n = with_buffer q i (record (buffer_of q i) { used = n })
 
 -- the event that tells of a frame, where the model has events
 abbrev pub sync_of : LocalState → List Owed
@@ -73,33 +74,47 @@ sync_of s =
     if has_events s.model then (record { queue = picture_queue s.model; item = Sync (target s).next_sequence }) ∷ [] else []
 
 -- the buffers that a frame takes, one of each queue
+abbrev pub buffer_taken : LocalState → ℕ → Owed
+buffer_taken s t = record { queue = t; item = OwedBuffer (head (queue_of s t)) }
+
 abbrev pub buffers_taken : LocalState → List Owed
-buffers_taken s = map (λ t. record { queue = t; item = OwedBuffer (head (queue_of s t)) }) (types_of s.model)
+buffers_taken s = map (buffer_taken s) (types_of s.model)
 
 -- a frame took the head of each queue, and what it leaves is owed behind what was owed before
-abbrev pub frame_taken : LocalState → Bool → List Owed → LocalState
-frame_taken s good entries = record s { queues = map (taken s good) (types_of s.model); owed = s.owed ++ entries }
+abbrev pub heads_taken : LocalState → Bool → List Owed → LocalState
+heads_taken s good entries =
+    record s { queues = map (taken good (next_timestamp s)) s.queues; owed = s.owed ++ entries }
 
--- the picture in the first bytes of the target's buffer, and the bytes behind it as they were
+-- the bytes in use of the buffer that the frame took for its picture
+abbrev pub with_target_used : LocalState → ℕ → LocalState → LocalState
+with_target_used s n next =
+    with_queue next (picture_queue s.model) (with_used (queue_of next (picture_queue s.model)) (head (target s)) n)
+
+-- the picture in the first bytes of that buffer, and the bytes behind it as they were
 abbrev pub with_picture : LocalState → LocalState → LocalState
 with_picture s next =
     let m : ℕ = number_of (head_buffer (target s)) in
     with_bytes next m (next_picture s ++ drop (picture_size (target s).format) (bytes_of s m))
 
 -- a frame is finished; none where it can't be
-abbrev pub finished : LocalState → Option LocalState
-finished s = if can_finish s then Some (with_picture s (frame_taken s true (sync_of s ++ buffers_taken s))) else None
+unfoldable pub finished : LocalState → Option LocalState
+finished s =
+    if can_finish s then
+    Some (with_picture s (with_target_used s (picture_size (target s).format) (heads_taken s true (sync_of s ++ buffers_taken s))))
+    else None
 
--- a frame fails: the contents stay, and there is no event
-abbrev pub marked_bad : LocalState → Option LocalState
-marked_bad s = if can_finish s then Some (frame_taken s false (buffers_taken s)) else None
+-- a frame fails: the contents stay, no byte is in use, and there is no event; none where no frame can be finished
+unfoldable pub marked_bad : LocalState → Option LocalState
+marked_bad s =
+    if can_finish s then Some (with_target_used s 0 (heads_taken s false (buffers_taken s))) else None
 
 -- ---- handing over
 
+abbrev pub with_done : QueueState → ℕ → QueueState
+with_done q i = record (with_buffer q i (record (buffer_of q i) { state = Done })) { done = q.done ++ i ∷ [] }
+
 abbrev pub buffer_given : LocalState → ℕ → ℕ → LocalState
-buffer_given s t i =
-    let q : QueueState = queue_of s t in
-    with_queue s t (record (with_buffer q i (record (buffer_of q i) { state = Done })) { done = q.done ++ i ∷ [] })
+buffer_given s t i = with_queue s t (with_done (queue_of s t) i)
 
 abbrev pub event_given : LocalState → ℕ → LocalState
 event_given s frame =
@@ -117,5 +132,5 @@ given_from s (o ∷ rest) = Some (item_given (record s { owed = rest }) o.queue 
 
 -- the first owed entry is handed over: a buffer to its queue's done list, an event to the event list, or away where
 -- events aren't wanted; none where nothing is owed
-abbrev pub given : LocalState → Option LocalState
+unfoldable pub given : LocalState → Option LocalState
 given s = given_from s s.owed

@@ -1,3 +1,6 @@
+ghost use Rattle.std.specs.Prelude.{◌≡◌};
+ghost use Rattle.vm_local.specs.Kinds.{is_mapping_kind, is_writable_kind};
+
 use crate::name::Name;
 
 /// What a bound name stands for.
@@ -18,6 +21,28 @@ pub enum BoundKind {
     },
 }
 
+impl BoundKind {
+    /// Whether it is a mapping.
+    pub fn is_mapping(self) -> bool
+        ensures { result ≡ is_mapping_kind self }
+    {
+        match self {
+            BoundKind::Mapping { .. } => true,
+            BoundKind::User { .. } => false,
+        }
+    }
+
+    /// Whether the memory may be written through the name.
+    pub fn is_writable(self) -> bool
+        ensures { result ≡ is_writable_kind self }
+    {
+        match self {
+            BoundKind::Mapping { writable, .. } => writable,
+            BoundKind::User { .. } => true,
+        }
+    }
+}
+
 /// A name that a handle has bound to a memory.
 ///
 /// Source: own.
@@ -25,7 +50,7 @@ pub enum BoundKind {
 pub struct Bound {
     pub name: Name,
     /// The memory's number.
-    pub memory: u32,
+    pub memory: u64,
     pub kind: BoundKind,
 }
 

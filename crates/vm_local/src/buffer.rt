@@ -1,3 +1,6 @@
+ghost use Rattle.std.specs.Prelude.{◌≡◌};
+ghost use Rattle.vm_local.specs.Kinds.{is_idle, is_away, is_done};
+
 /// Where a buffer is.
 ///
 /// Source: own.
@@ -11,6 +14,38 @@ pub enum BufferState {
     Owed,
     /// With the guest, which has yet to take it by `dqbuf`.
     Done,
+}
+
+impl BufferState {
+    /// Whether it is Idle.
+    pub fn is_idle(self) -> bool
+        ensures { result ≡ is_idle self }
+    {
+        match self {
+            BufferState::Idle => true,
+            BufferState::Queued | BufferState::Owed | BufferState::Done => false,
+        }
+    }
+
+    /// Whether it is Queued or Owed, so that the guest may not even read the buffer's memory.
+    pub fn is_away(self) -> bool
+        ensures { result ≡ is_away self }
+    {
+        match self {
+            BufferState::Queued | BufferState::Owed => true,
+            BufferState::Idle | BufferState::Done => false,
+        }
+    }
+
+    /// Whether it is Done.
+    pub fn is_done(self) -> bool
+        ensures { result ≡ is_done self }
+    {
+        match self {
+            BufferState::Done => true,
+            BufferState::Idle | BufferState::Queued | BufferState::Owed => false,
+        }
+    }
 }
 
 /// One buffer of a queue.
@@ -30,5 +65,5 @@ pub struct Buffer {
     /// Whether its last frame failed.
     pub is_bad: bool,
     /// The number of its memory: none for user memory that no `qbuf` brought yet.
-    pub memory: Option<u32>,
+    pub memory: Option<u64>,
 }

@@ -1,8 +1,14 @@
-ghost use Rattle.std.specs.Prelude.{◌≡◌, ℕ, List, [], ◌∷◌, ◌++◌, Bool, not, if◌then◌else◌, Some, None};
+ghost use Rattle.std.specs.Prelude.{◌≡◌, ℕ, List, [], ◌∷◌, ◌++◌, Bool, false, if◌then◌else◌, Some, None};
 ghost use Rattle.std.specs.Option.{option_and_then};
 ghost use Rattle.v4l_const.specs.declared.errno.Errno.TheVariants.{Enomem, Ebadf};
+ghost use Rattle.v4l_const.specs.declared.errno.Errno.{Errno};
+ghost use Rattle.vm_local.specs.declared.call.Call.{Call};
+ghost use Rattle.vm_local.specs.Owner.{owner_of, moves};
 ghost use Rattle.vm_local.specs.declared.call.Call.TheVariants.{OpenHandle, CloseHandle};
 ghost use Rattle.vm_local.specs.declared.entry.Entry.{Entry};
+ghost use Rattle.std.specs.Bool.{Decides};
+ghost use Rattle.vm_local.specs.Same.{same_reply};
+ghost use Rattle.vm_local.specs.declared.reply.Reply.{Reply};
 ghost use Rattle.vm_local.specs.declared.reply.Reply.TheVariants.{Done, Refused};
 ghost use Rattle.vm_local.specs.State.{LocalState};
 ghost use Rattle.vm_local.specs.Calls.{opened_anew, closed};
@@ -21,4 +27,20 @@ pub fn open_and_close()
     ensures lacks_memory { (s : LocalState) (line : ℕ) (nonblock : Bool) → called s line (OpenHandle nonblock) (Refused Enomem) ≡ Some s }
     ensures closes { (s : LocalState) (line : ℕ) → called s line CloseHandle Done ≡ (if s.opened then Some (closed s) else None) }
     ensures was_closed { (s : LocalState) (line : ℕ) → called s line CloseHandle (Refused Ebadf) ≡ (if s.opened then None else Some s) }
+{}
+
+/// A refused call changes nothing, want of memory among the refusals.
+pub fn refusals_change_nothing()
+    ensures { (s : LocalState) (line : ℕ) (call : Call) (e : Errno) (t : LocalState) → called s line call (Refused e) ≡ Some t → t ≡ s }
+{}
+
+/// The owner of a buffer changes only at `qbuf`, `dqbuf`, `streamoff`, `reqbufs`, `close`, `open` and the steps of the
+/// device; and `open` comes first in the log of a handle that is opened once.
+pub fn owners_move_at_few_entries()
+    ensures { (s t : LocalState) (e : Entry) → moves e ≡ false → after s e ≡ Some t → (k i : ℕ) → owner_of t k i ≡ owner_of s k i }
+{}
+
+/// Two replies are tested to be the same exactly where they are equal.
+pub fn same_replies_are_equal()
+    ensures { (a b : Reply) → Decides (same_reply a b) (a ≡ b) }
 {}

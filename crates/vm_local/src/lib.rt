@@ -2,22 +2,51 @@
 //! device's own steps, and which logs are legal.
 #![tactic(auto)]
 
+mod answers;
 mod bound;
 mod buffer;
+mod buffer_effects;
+mod buffer_refusals;
+mod buffers;
+mod byte_effects;
+mod byte_refusals;
+mod bytes;
 mod call;
+mod effects;
 mod entry;
+mod form_effects;
+mod form_refusals;
+mod frames;
+mod fresh;
 mod laws;
+mod local;
 mod name;
+mod names;
 mod owed;
+mod pictures;
+mod queue;
+mod queues;
+mod refusals;
 mod reply;
+mod same;
 mod small;
+mod step;
+mod steps;
 
 pub use bound::{Bound, BoundKind, MemoryKind};
 pub use buffer::{Buffer, BufferState};
 pub use call::Call;
 pub use entry::Entry;
-pub use laws::replay_of_an_append;
+pub use laws::{
+    open_and_close, owners_move_at_few_entries, refusals_change_nothing, replay_of_an_append,
+    same_replies_are_equal,
+};
+pub use local::Local;
 pub use name::{NAME_LIMIT, Name};
 pub use owed::{Owed, OwedItem, SyncEvent};
 pub use reply::Reply;
 pub use small::{SMALL_LIMIT, Small};
+pub use step::local_step;
+
+#[cfg(test)]
+mod tests;

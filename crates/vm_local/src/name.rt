@@ -1,4 +1,5 @@
 ghost use Rattle.std.specs.Prelude.{◌≡◌, ◌≤◌, ◌<◌, length};
+ghost use Rattle.std.specs.Str.{bytes_eq};
 ghost use Rattle.vm_local.specs.Text.{name_of};
 
 use std::marker::Model;
@@ -56,5 +57,12 @@ impl Name {
         ensures eight_or_less { length self.now ≤ 8 }
     {
         &self.bytes[..self.len as usize]
+    }
+
+    /// Whether it is the same as another.
+    pub fn is(&self, other: &Name) -> bool
+        ensures { result ≡ bytes_eq self.now other.now }
+    {
+        self.as_bytes() == other.as_bytes()
     }
 }

@@ -1,0 +1,5 @@
+use Rattle.vm_local.proofs.ModelLemmas.{types_most}
+use Rattle.vm_local.proofs.queues.Queues.new.Goals as goal
+
+pub begun-requires : goal.begun-requires
+begun-requires c = rw c.queues.ensures (types_most c.args.model)
