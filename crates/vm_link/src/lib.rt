@@ -8,3 +8,6 @@ mod plain_link;
 pub use link::{Link, Turn};
 pub use parcel::{Finished, MESSAGE_LEN, Parcel};
 pub use plain_link::PlainLink;
+
+#[cfg(test)]
+mod tests;

@@ -14,7 +14,8 @@ pub enum Turn {
 
 /// A queue between the two ends: what waits, what the device has taken, and what it has finished.
 ///
-/// Source: VIRTIO 1.3, 2.6 "Split Virtqueues", seen as whole lists.
+/// Source: VIRTIO 1.3, 2.6 "Split Virtqueues", seen as whole lists. No call takes memory, and none
+/// changes the room.
 pub trait Link {
     /// The queue's room and its three lists.
     ghost queue: { Self → Queue };
@@ -27,7 +28,8 @@ pub trait Link {
     fn uncollected(&self) -> u16
         ensures { result ≡ length (queue self.now).done };
 
-    /// The driver posts a parcel behind those that wait.
+    /// The driver posts a parcel behind those that wait. The queue has room for it, and holds no other
+    /// parcel of its process.
     fn post(&mut self, parcel: Parcel)
         requires room { parcel_count (queue self.old) < (queue self.old).room }
         requires own { ¬ Contains (owners_of (queue self.old)) parcel.who }
@@ -38,7 +40,7 @@ pub trait Link {
         ensures parcel { result ≡ first_waiting (queue self.old) }
         ensures queue { queue self.new ≡ taken (queue self.old) };
 
-    /// The device gives back a parcel that it took.
+    /// The device gives back a parcel that it took, behind those that are finished.
     fn finish(&mut self, done: Finished)
         requires { Contains (queue self.old).out done.parcel.who }
         ensures { queue self.new ≡ finished (queue self.old) done };

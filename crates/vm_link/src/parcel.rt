@@ -21,5 +21,6 @@ pub struct Parcel {
 pub struct Finished {
     /// How many bytes of the reply the device wrote.
     pub used: u32,
+    /// The parcel, with the reply at the front of its room.
     pub parcel: Parcel,
 }

@@ -69,11 +69,13 @@ impl Link for PlainLink {
     ghost queue = { λ l. l };
 
     fn untaken(&self) -> u16 {
+        // The room bounds the length.
         let _room = self.room;
         self.waiting.len() as u16
     }
 
     fn uncollected(&self) -> u16 {
+        // The room bounds the length.
         let _room = self.room;
         self.done.len() as u16
     }

@@ -5,14 +5,15 @@ ghost use Rattle.vm_wire.specs.declared.command.CmdFault.{CmdFault};
 
 use crate::number::{le32, put32};
 
-/// A command of the driver.
+/// A command of the driver: its number, a pad, and then its fields, a pad behind a session's id. Numbers
+/// and pads have four bytes, little-endian.
 ///
 /// Source: own, after the sessions of the VIRTIO 1.4 draft's media device.
 #[derive(Clone, Copy, Debug, PartialEq, Eq)]
 pub enum Command {
-    /// Opens a session.
+    /// Opens a session. 8 bytes.
     OpenSession,
-    /// Closes a session.
+    /// Closes the session of this id. 16 bytes.
     CloseSession { session: u32 },
 }
 
@@ -34,7 +35,8 @@ pub const OPEN: u32 = 1;
 /// The number of the command that closes one.
 pub const CLOSE: u32 = 2;
 
-/// Writes a command at the front of `out`, and answers how many bytes it took.
+/// Writes a command at the front of `out`, which has room for it, and answers how many bytes it took.
+/// What stands behind stays.
 pub fn encode_command(c: &Command, out: &mut [u8]) -> usize
     requires { length (command_bytes c.now) ≤ length out.old }
     ensures bytes { out.new ≡ command_bytes c.now ++ drop (length (command_bytes c.now)) out.old }
@@ -56,7 +58,8 @@ pub fn encode_command(c: &Command, out: &mut [u8]) -> usize
     }
 }
 
-/// Reads a command whose reply has `writable` bytes of room.
+/// Reads a command whose reply has `writable` bytes of room. The content of pads is ignored, and so are
+/// bytes behind the command.
 ///
 /// # Errors
 /// The first of the faults that applies: too few bytes for a number, an unknown number, too few bytes

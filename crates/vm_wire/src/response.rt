@@ -4,16 +4,17 @@ ghost use Rattle.vm_wire.specs.Wire.{response_bytes, response_len, response_of};
 use crate::Command;
 use crate::number::{le32, put32};
 
-/// What the device answers to a command.
+/// What the device answers to a command: a status, a pad, and with status 0 the answer's fields, a pad
+/// behind a session's id.
 ///
 /// Source: own, after the sessions of the VIRTIO 1.4 draft's media device.
 #[derive(Clone, Copy, Debug, PartialEq, Eq)]
 pub enum Response {
-    /// The command is refused, with this errno.
+    /// The command is refused: the status is this errno. 8 bytes.
     Refused(u32),
-    /// The session is open.
+    /// The session of this id is open. 16 bytes.
     Opened { session: u32 },
-    /// The session is closed.
+    /// The session is closed. 8 bytes.
     Closed,
 }
 
@@ -21,7 +22,8 @@ pub enum Response {
 #[derive(Clone, Copy, Debug, PartialEq, Eq)]
 pub struct Short;
 
-/// Writes a reply at the front of `out`, and answers how many bytes it took.
+/// Writes a reply at the front of `out`, which has room for it, and answers how many bytes it took.
+/// What stands behind stays.
 pub fn encode_response(r: &Response, out: &mut [u8]) -> usize
     requires { length (response_bytes r.now) ≤ length out.old }
     ensures bytes { out.new ≡ response_bytes r.now ++ drop (length (response_bytes r.now)) out.old }
@@ -48,7 +50,7 @@ pub fn encode_response(r: &Response, out: &mut [u8]) -> usize
     }
 }
 
-/// Reads the reply to a command.
+/// Reads the reply to a command. The content of pads is ignored, and so are bytes behind the reply.
 ///
 /// # Errors
 /// `Short` exactly where there are fewer bytes than the reply has.
