@@ -38,9 +38,9 @@ more_below : (n h : ℕ) (ids : List (Option ℕ)) → h < length ids → AreNum
 more_below n h ids within are k id stands =
     elim (cases_eq k h) [
       | inl same ↦
-        let P : ℕ → Type 0 = λ j. id_in (set ids h (Some n)) j ≡ Some id in
-        let here : Some n ≡ Some id = sym (get_or-set_same ids h (Some n) None within) ∙ subst P same stands in
-        omega (arith, some_alike n id here)
+          let P : ℕ → Type 0 = λ j. id_in (set ids h (Some n)) j ≡ Some id in
+          let here : Some n ≡ Some id = sym (get_or-set_same ids h (Some n) None within) ∙ subst P same stands in
+          omega (arith, some_alike n id here)
       | inr differs ↦ omega (arith, are.below k id (sym (get_or-set_other ids h k (Some n) None differs) ∙ stands))
     ]
 
@@ -50,26 +50,26 @@ more_there n h ids within vacant are id below =
     elim (cases_eq id n) [
       | inl same ↦ (h, get_or-set_same ids h (Some n) None within ∙ ap Some (sym same))
       | inr differs ↦
-        let old = are.there id (omega (arith, below, differs)) in
-        let other : old.0 ≢ h = λ same. (let P : ℕ → Type 0 = λ j. id_in ids j ≡ Some id in let here : None ≡ Some id = sym vacant ∙ subst P same old.1 in cc) in
-        (old.0, get_or-set_other ids h old.0 (Some n) None other ∙ old.1)
+          let old = are.there id (omega (arith, below, differs)) in
+          let other : old.0 ≢ h = λ same. (let P : ℕ → Type 0 = λ j. id_in ids j ≡ Some id in let here : None ≡ Some id = sym vacant ∙ subst P same old.1 in cc) in
+          (old.0, get_or-set_other ids h old.0 (Some n) None other ∙ old.1)
     ]
 
 more_once : (n h : ℕ) (ids : List (Option ℕ)) → h < length ids → AreNumbersBelow n ids → (j k id : ℕ)
     → id_in (set ids h (Some n)) j ≡ Some id → id_in (set ids h (Some n)) k ≡ Some id → j ≡ k
 more_once n h ids within are j k id at_j at_k =
     let new : (i : ℕ) → id_in (set ids h (Some n)) i ≡ Some n → i ≡ h = λ i at_i.
-      elim (cases_eq i h) [
-        | inl same ↦ same
-        | inr differs ↦ absurd (let below : n < n = are.below i n (sym (get_or-set_other ids h i (Some n) None differs) ∙ at_i) in omega (arith, below))
-      ] in
+    elim (cases_eq i h) [
+      | inl same ↦ same
+      | inr differs ↦ absurd (let below : n < n = are.below i n (sym (get_or-set_other ids h i (Some n) None differs) ∙ at_i) in omega (arith, below))
+    ] in
     let own : (i : ℕ) → i ≡ h → id_in (set ids h (Some n)) i ≡ Some id → id ≡ n = λ i same at_i.
-      (let P : ℕ → Type 0 = λ w. id_in (set ids h (Some n)) w ≡ Some id in
-       sym (some_alike n id (sym (get_or-set_same ids h (Some n) None within) ∙ subst P same at_i))) in
+    (let P : ℕ → Type 0 = λ w. id_in (set ids h (Some n)) w ≡ Some id in
+    sym (some_alike n id (sym (get_or-set_same ids h (Some n) None within) ∙ subst P same at_i))) in
     elim (cases_eq j h) [
       | inl j_same ↦
-        let is : id ≡ n = own j j_same at_j in
-        j_same ∙ sym (new k (at_k ∙ ap Some is))
+          let is : id ≡ n = own j j_same at_j in
+          j_same ∙ sym (new k (at_k ∙ ap Some is))
       | inr j_differs ↦ elim (cases_eq k h) [
         | inl k_same ↦ let is : id ≡ n = own k k_same at_k in new j (at_j ∙ ap Some is) ∙ sym k_same
         | inr k_differs ↦ are.once j k id (sym (get_or-set_other ids h j (Some n) None j_differs) ∙ at_j) (sym (get_or-set_other ids h k (Some n) None k_differs) ∙ at_k)
@@ -103,13 +103,13 @@ agrees_opened sessions seats h within vacant agrees =
       ids = subst Q (sym (length-append sessions (Some (record { id = n }) ∷ []))) (subst P (sym (map-set session_of seats h seat)) more);
       live = λ k is_open. elim (cases_eq k h) [
         | inl same ↦
-          let at : seat_in (set seats h seat) k ≡ seat = ap (seat_in (set seats h seat)) same ∙ get_or-set_same seats h seat no_seat within in
-          (n, ap session_of at, at_end sessions (Some (record { id = n })) None)
+            let at : seat_in (set seats h seat) k ≡ seat = ap (seat_in (set seats h seat)) same ∙ get_or-set_same seats h seat no_seat within in
+            (n, ap session_of at, at_end sessions (Some (record { id = n })) None)
         | inr differs ↦
-          let at : seat_in (set seats h seat) k ≡ seat_in seats k = get_or-set_other seats h k seat no_seat differs in
-          let old = agrees.live k (ap (λ s. s.opened) (sym at) ∙ is_open) in
-          let below : old.0 < n = agrees.ids.below k old.0 (get_or-map session_of seats k no_seat ∙ old.1) in
-          (old.0, ap session_of at ∙ old.1, at_front sessions (Some (record { id = n }) ∷ []) old.0 None below ∙ old.2)
+            let at : seat_in (set seats h seat) k ≡ seat_in seats k = get_or-set_other seats h k seat no_seat differs in
+            let old = agrees.live k (ap (λ s. s.opened) (sym at) ∙ is_open) in
+            let below : old.0 < n = agrees.ids.below k old.0 (get_or-map session_of seats k no_seat ∙ old.1) in
+            (old.0, ap session_of at ∙ old.1, at_front sessions (Some (record { id = n }) ∷ []) old.0 None below ∙ old.2)
       ];
     }
 
@@ -125,12 +125,12 @@ agrees_closed sessions seats h id within has agrees =
       ids = subst Q (sym (length-set sessions id None)) (subst P (sym same_ids) agrees.ids);
       live = λ k is_open. elim (cases_eq k h) [
         | inl same ↦
-          let at : seat_in (set seats h seat) k ≡ seat = ap (seat_in (set seats h seat)) same ∙ get_or-set_same seats h seat no_seat within in
-          absurd (let shut : false ≡ true = ap (λ s. s.opened) (sym at) ∙ is_open in cc)
+            let at : seat_in (set seats h seat) k ≡ seat = ap (seat_in (set seats h seat)) same ∙ get_or-set_same seats h seat no_seat within in
+            absurd (let shut : false ≡ true = ap (λ s. s.opened) (sym at) ∙ is_open in cc)
         | inr differs ↦
-          let at : seat_in (set seats h seat) k ≡ seat_in seats k = get_or-set_other seats h k seat no_seat differs in
-          let old = agrees.live k (ap (λ s. s.opened) (sym at) ∙ is_open) in
-          let other : old.0 ≢ id = λ is. differs (agrees.ids.once k h old.0 (get_or-map session_of seats k no_seat ∙ old.1) (get_or-map session_of seats h no_seat ∙ has ∙ ap Some (sym is))) in
-          (old.0, ap session_of at ∙ old.1, get_or-set_other sessions id old.0 None None other ∙ old.2)
+            let at : seat_in (set seats h seat) k ≡ seat_in seats k = get_or-set_other seats h k seat no_seat differs in
+            let old = agrees.live k (ap (λ s. s.opened) (sym at) ∙ is_open) in
+            let other : old.0 ≢ id = λ is. differs (agrees.ids.once k h old.0 (get_or-map session_of seats k no_seat ∙ old.1) (get_or-map session_of seats h no_seat ∙ has ∙ ap Some (sym is))) in
+            (old.0, ap session_of at ∙ old.1, get_or-set_other sessions id old.0 None None other ∙ old.2)
       ];
     }

@@ -68,7 +68,7 @@ begun_by g a None q sends handles' parcel orderly asks is starts =
 pub issued : (g : GuestState) (a : Asked) (q : Queue) (sends : Bool) (handles' : List HandleState) (parcel : Parcel)
     → IsOrderly g → next_asked g ≡ Some a → Starts (crosses_by g a) a g.handles sends handles' parcel
     → Issues (next_asked g) g q Did (driver g.process handles' (g.begun + 1) sends) (if sends then posted q parcel else q)
-      × IsOrderly (driver g.process handles' (g.begun + 1) sends)
+    × IsOrderly (driver g.process handles' (g.begun + 1) sends)
 issued g a q sends handles' parcel orderly asks starts =
     let begun = begun_by g a (crosses_by g a) q sends handles' parcel orderly asks refl starts in
     let P : Option Asked → Type 0 = λ o. Issues o g q Did (driver g.process handles' (g.begun + 1) sends) (if sends then posted q parcel else q) in

@@ -1,6 +1,7 @@
 pub mod AgreeLemmas
 pub mod DigestLemmas
 pub mod EchoLemmas
+pub mod EndsLemmas
 pub mod IssueLemmas
 pub mod LineLemmas
 pub mod LinesLemmas

@@ -72,7 +72,7 @@ lines_of-more p k a h asks =
     let at : get_or p.lines k line.0 ≡ line.0 = get_or_from_slice_get p.lines k line.0 line.0 line.1 in
     let more : take (k + 1) p.lines ≡ take k p.lines ++ line.0 ∷ [] = take_more p.lines k line.0 within ∙ ap (λ l. take k p.lines ++ l ∷ []) at in
     ap (lines_of h) more ∙ lines_of-append h (take k p.lines) (line.0 ∷ [])
-      ∙ rw (line.2, line.3, append-nil (numbered a.line (call_on h (OnHandle a.handle a.call)))) refl
+    ∙ rw (line.2, line.3, append-nil (numbered a.line (call_on h (OnHandle a.handle a.call)))) refl
 
 -- the handle that is asked has one line more
 pub lines_of-asked : (p : ProcessLines) (k : ℕ) (a : Asked) → asked_at p k ≡ Some a

@@ -34,9 +34,9 @@ pub has_room : (p : ProcessLines) (k : ℕ) (a : Asked) (handle : HandleState) �
     → Answers p.lines (take k p.lines) a.handle handle → HasRoom handle
 has_room p k a handle asks answers =
     let fills : length handle.entries ≡ length (lines_of a.handle (take k p.lines)) =
-      sym (calls_of-built handle.entries answers.built) ∙ ap length answers.calls in
+    sym (calls_of-built handle.entries answers.built) ∙ ap length answers.calls in
     let next : length (lines_of a.handle (take (k + 1) p.lines)) ≡ length (lines_of a.handle (take k p.lines)) + 1 =
-      ap length (lines_of-asked p k a asks) ∙ length-append (lines_of a.handle (take k p.lines)) (record { line = a.line; call = a.call } ∷ []) in
+    ap length (lines_of-asked p k a asks) ∙ length-append (lines_of a.handle (take k p.lines)) (record { line = a.line; call = a.call } ∷ []) in
     omega (arith, fills, next, lines_of-take a.handle (k + 1) p.lines, answers.room)
 
 -- The handle has one entry more, and its log and session are kept.
@@ -63,7 +63,7 @@ answers_asked p k a handle handle' reply asks answers grows = record {
   model = grows.model ∙ answers.model;
   keeps = grows.keeps;
   calls = ap calls_of grows.entries ∙ calls_of-push handle.entries a.line a.call reply
-    ∙ ap (λ ls. ls ++ record { line = a.line; call = a.call } ∷ []) answers.calls ∙ sym (lines_of-asked p k a asks);
+      ∙ ap (λ ls. ls ++ record { line = a.line; call = a.call } ∷ []) answers.calls ∙ sym (lines_of-asked p k a asks);
   built = ap (list_all is_built) grows.entries ∙ list_all-push handle.entries (Called a.line a.call reply) answers.built grows.built;
   room = rw grows.room answers.room;
 }
@@ -87,13 +87,13 @@ each_answers p k a handles handle' reply asks within each grows h inside =
     let inside' : h < length handles = omega (arith, inside, length-set handles a.handle handle') in
     elim (cases_eq h a.handle) [
       | inl same ↦
-        let P : ℕ → Type 0 = λ j. Answers p.lines (take (k + 1) p.lines) j (handle_in (set handles a.handle handle') j) in
-        let Q : HandleState → Type 0 = λ x. Answers p.lines (take (k + 1) p.lines) a.handle x in
-        subst P (sym same) (subst Q (sym (get_or-set_same handles a.handle handle' no_handle within))
+          let P : ℕ → Type 0 = λ j. Answers p.lines (take (k + 1) p.lines) j (handle_in (set handles a.handle handle') j) in
+          let Q : HandleState → Type 0 = λ x. Answers p.lines (take (k + 1) p.lines) a.handle x in
+          subst P (sym same) (subst Q (sym (get_or-set_same handles a.handle handle' no_handle within))
           (answers_asked p k a (handle_in handles a.handle) handle' reply asks (each a.handle within) grows))
       | inr differs ↦
-        let Q : HandleState → Type 0 = λ x. Answers p.lines (take (k + 1) p.lines) h x in
-        subst Q (sym (get_or-set_other handles a.handle h handle' no_handle differs))
+          let Q : HandleState → Type 0 = λ x. Answers p.lines (take (k + 1) p.lines) h x in
+          subst Q (sym (get_or-set_other handles a.handle h handle' no_handle differs))
           (answers_other p k h a (handle_in handles h) asks differs (each h inside'))
     ]
 
@@ -133,7 +133,7 @@ grows_refused handle line CloseHandle built model keeps closed =
       room = refl;
       entries = refl;
       keeps = renewed handle.model (handle.entries ++ Called line CloseHandle (Refused Ebadf) ∷ []) (local_of handle).opened (is_some handle.session) model
-        (keeps_refused Capture handle.entries (handle.entries ++ Called line CloseHandle (Refused Ebadf) ∷ []) line CloseHandle Ebadf (local_of handle).opened (is_some handle.session)
+          (keeps_refused Capture handle.entries (handle.entries ++ Called line CloseHandle (Refused Ebadf) ∷ []) line CloseHandle Ebadf (local_of handle).opened (is_some handle.session)
           tt (not_open', refl) keeps refl);
       built = refl;
     }
@@ -154,7 +154,7 @@ grows_answered handle line (OpenHandle nonblock) c (Opened session) built model 
   room = refl;
   entries = refl;
   keeps = renewed handle.model (handle.entries ++ Called line (OpenHandle nonblock) Done ∷ []) true true model
-    (keeps_opened Capture handle.entries (handle.entries ++ Called line (OpenHandle nonblock) Done ∷ []) line (OpenHandle nonblock) (local_of handle).opened (is_some handle.session) tt keeps refl);
+      (keeps_opened Capture handle.entries (handle.entries ++ Called line (OpenHandle nonblock) Done ∷ []) line (OpenHandle nonblock) (local_of handle).opened (is_some handle.session) tt keeps refl);
   built = rw built refl;
 }
 grows_answered handle line (OpenHandle nonblock) c (Denied errno) built model keeps crosses may = record {
@@ -162,7 +162,7 @@ grows_answered handle line (OpenHandle nonblock) c (Denied errno) built model ke
   room = refl;
   entries = refl;
   keeps = renewed handle.model (handle.entries ++ Called line (OpenHandle nonblock) (Refused Enomem) ∷ []) (local_of handle).opened (is_some handle.session) model
-    (keeps_refused Capture handle.entries (handle.entries ++ Called line (OpenHandle nonblock) (Refused Enomem) ∷ []) line (OpenHandle nonblock) Enomem (local_of handle).opened (is_some handle.session) built refl keeps refl);
+      (keeps_refused Capture handle.entries (handle.entries ++ Called line (OpenHandle nonblock) (Refused Enomem) ∷ []) line (OpenHandle nonblock) Enomem (local_of handle).opened (is_some handle.session) built refl keeps refl);
   built = rw built refl;
 }
 grows_answered handle line (OpenHandle nonblock) c Closed built model keeps crosses may = absurd may
@@ -174,7 +174,7 @@ grows_answered handle line CloseHandle c Closed built model keeps crosses may =
       room = refl;
       entries = refl;
       keeps = renewed handle.model (handle.entries ++ Called line CloseHandle Done ∷ []) false (is_some handle.session) model
-        (keeps_closed Capture handle.entries (handle.entries ++ Called line CloseHandle Done ∷ []) line (local_of handle).opened (is_some handle.session) is_open' keeps refl);
+          (keeps_closed Capture handle.entries (handle.entries ++ Called line CloseHandle Done ∷ []) line (local_of handle).opened (is_some handle.session) is_open' keeps refl);
       built = refl;
     }
 grows_answered handle line CloseHandle c (Opened session) built model keeps crosses may = absurd may
@@ -242,7 +242,7 @@ orderly_refused g a orderly asks closed =
       within = omega (arith, line.0);
       counted = λ _. omega arith;
       each = subst P (sym (count_at (with_refused g a) false (next_is g a asks).0))
-        (each_answers g.process g.begun a g.handles _ (Refused Ebadf) (next_is g a asks).1 named each
+          (each_answers g.process g.begun a g.handles _ (Refused Ebadf) (next_is g a asks).1 named each
           (grows_refused (handle_in g.handles a.handle) a.line a.call line.2 fits.model fits.keeps closed));
     }
 
@@ -256,15 +256,16 @@ orderly_answered g a f orderly asks replies =
     let each = each_before_awaited g a orderly asks in
     let fits = each a.handle named in
     let known : (o : Option Command) → crosses_by g a ≡ o → Replies o a.call f
-        → EachAnswers g.process.lines (take ((g.begun - 1) + 1) g.process.lines) (handles_with o a f g.handles) × (length (handles_with o a f g.handles) ≡ length g.handles) =
-      λ o. elim o as (λ o. crosses_by g a ≡ o → Replies o a.call f
-        → EachAnswers g.process.lines (take ((g.begun - 1) + 1) g.process.lines) (handles_with o a f g.handles) × (length (handles_with o a f g.handles) ≡ length g.handles)) [
-        | None ↦ λ is replies. absurd replies
-        | Some c ↦ λ is replies. (
-            each_answers g.process (g.begun - 1) a g.handles _ (reply_of (reply_in c f)) (awaited_is g a asks).1 named each
-              (grows_answered (handle_in g.handles a.handle) a.line a.call c (reply_in c f) line.2 fits.model fits.keeps is replies.2),
-            length-set g.handles a.handle _)
-      ] in
+    → EachAnswers g.process.lines (take ((g.begun - 1) + 1) g.process.lines) (handles_with o a f g.handles) × (length (handles_with o a f g.handles) ≡ length g.handles) =
+    λ o. elim o as (λ o. crosses_by g a ≡ o → Replies o a.call f
+    → EachAnswers g.process.lines (take ((g.begun - 1) + 1) g.process.lines) (handles_with o a f g.handles) × (length (handles_with o a f g.handles) ≡ length g.handles)) [
+      | None ↦ λ is replies. absurd replies
+      | Some c ↦ λ is replies. (
+        each_answers g.process (g.begun - 1) a g.handles _ (reply_of (reply_in c f)) (awaited_is g a asks).1 named each
+            (grows_answered (handle_in g.handles a.handle) a.line a.call c (reply_in c f) line.2 fits.model fits.keeps is replies.2),
+        length-set g.handles a.handle _,
+      )
+    ] in
     let done = known (crosses_by g a) refl replies in
     let P : ℕ → Type 0 = λ n. EachAnswers g.process.lines (take n g.process.lines) (handles_with (crosses_by g a) a f g.handles) in
     record {

@@ -46,7 +46,7 @@ each_done g orderly done =
     let quiet = done_quiet (nat_lt g.begun (length g.process.lines)) g.awaits done in
     let count : answered_count g ≡ g.begun = ap (λ b. if b then g.begun - 1 else g.begun) quiet.1 in
     let all : take (answered_count g) g.process.lines ≡ g.process.lines =
-      ap (λ n. take n g.process.lines) count ∙ take_all g.begun g.process.lines (beyond g.begun (length g.process.lines) quiet.0) in
+    ap (λ n. take n g.process.lines) count ∙ take_all g.begun g.process.lines (beyond g.begun (length g.process.lines) quiet.0) in
     let P : List Line → Type 0 = λ ls. EachAnswers g.process.lines ls g.handles in
     subst P all orderly.each
 
@@ -88,9 +88,9 @@ answers_each h (name ∷ names) (x ∷ xs) lines same each =
     let first : h + 0 ≡ h = omega arith in
     let P : ℕ → Type 0 = λ n. calls_of x.entries ≡ lines_of n lines in
     let rest : (k : ℕ) → k < length xs → calls_of (handle_in xs k).entries ≡ lines_of ((h + 1) + k) lines = λ k within.
-      (let next : h + suc k ≡ (h + 1) + k = omega arith in
-       let Q : ℕ → Type 0 = λ n. calls_of (handle_in xs k).entries ≡ lines_of n lines in
-       subst Q next (each (suc k) (omega (arith, within)))) in
+    (let next : h + suc k ≡ (h + 1) + k = omega arith in
+    let Q : ℕ → Type 0 = λ n. calls_of (handle_in xs k).entries ≡ lines_of n lines in
+    subst Q next (each (suc k) (omega (arith, within)))) in
     (refl, refl, subst P first (each 0 (omega arith)), answers_each (h + 1) names xs lines (omega (arith, same)) rest)
 
 local_runs : (names : List (List ℕ)) (handles : List HandleState)
@@ -119,15 +119,18 @@ done_run w text sound done printed =
     let quiet = quiet_where w sound (done_quiet (nat_lt w.guest.begun (length p.lines)) w.guest.awaits done).1 in
     let ids = same_ids p.handles handles sound.orderly.named in
     let P : List (Option ℕ) → Type 0 = λ xs. AreNumbersBelow (length w.host.sessions) xs in
-    let logs : Logs = logs_of_process Capture 0 p.handles handles in
-    (logs, record {
-      answers = answers_each 0 p.handles handles p.lines sound.orderly.named (λ k within.
-        (let zero_more : k ≡ 0 + k = omega arith in
-         let Q : ℕ → Type 0 = λ n. calls_of (handle_in handles k).entries ≡ lines_of n p.lines in subst Q zero_more (each k within).calls));
-      runs = local_runs p.handles handles (λ k within. record { legal = (each k within).keeps.legal; session = (each k within).keeps.session });
-      ids = (length w.host.sessions, subst P (sym ids) quiet.1.ids);
-      wire = refl;
-    }, (all_answered_reads p handles (all_answered w.guest sound.orderly done) sound.orderly.named (all_read_lines p sound.orderly.read), printed))
+    let logs : Logs = logs_of_process Capture 0 p.handles handles in (
+      logs,
+      record {
+        answers = answers_each 0 p.handles handles p.lines sound.orderly.named (λ k within.
+            (let zero_more : k ≡ 0 + k = omega arith in
+            let Q : ℕ → Type 0 = λ n. calls_of (handle_in handles k).entries ≡ lines_of n p.lines in subst Q zero_more (each k within).calls));
+        runs = local_runs p.handles handles (λ k within. record { legal = (each k within).keeps.legal; session = (each k within).keeps.session });
+        ids = (length w.host.sessions, subst P (sym ids) quiet.1.ids);
+        wire = refl;
+      },
+      (all_answered_reads p handles (all_answered w.guest sound.orderly done) sound.orderly.named (all_read_lines p sound.orderly.read), printed),
+    )
 
 abbrev first_or : ProcessLines → List ProcessLines → ProcessLines
 first_or d [] = d

@@ -36,8 +36,8 @@ seat_refused handle line CloseHandle built kept closed =
     let not_open : (local_of handle).opened ≡ false = is_false (local_of handle).opened _ closed in
     let not_open' : opened_after Capture handle ≡ false = ap (λ m. opened_after m handle) (sym kept.0) ∙ not_open in
     ap (λ o. record { session = handle.session; opened = o })
-      (opened_by handle (handle.entries ++ Called line CloseHandle (Refused Ebadf) ∷ []) (local_of handle).opened (is_some handle.session) kept.0
-        (keeps_refused Capture handle.entries (handle.entries ++ Called line CloseHandle (Refused Ebadf) ∷ []) line CloseHandle Ebadf (local_of handle).opened (is_some handle.session) tt (not_open', refl) kept.1 refl))
+    (opened_by handle (handle.entries ++ Called line CloseHandle (Refused Ebadf) ∷ []) (local_of handle).opened (is_some handle.session) kept.0
+    (keeps_refused Capture handle.entries (handle.entries ++ Called line CloseHandle (Refused Ebadf) ∷ []) line CloseHandle Ebadf (local_of handle).opened (is_some handle.session) tt (not_open', refl) kept.1 refl))
 seat_refused handle line call built kept closed = absurd built
 
 -- an open that was answered ok
@@ -45,22 +45,22 @@ pub seat_opened : (handle : HandleState) (line : ℕ) (nonblock : Bool) (session
     → seat_of (with_response handle line (OpenHandle nonblock) (Opened session)) ≡ record { session = Some session; opened = true }
 seat_opened handle line nonblock session kept =
     ap (λ o. record { session = Some session; opened = o })
-      (opened_by handle (handle.entries ++ Called line (OpenHandle nonblock) Done ∷ []) true true kept.0
-        (keeps_opened Capture handle.entries (handle.entries ++ Called line (OpenHandle nonblock) Done ∷ []) line (OpenHandle nonblock) (local_of handle).opened (is_some handle.session) tt kept.1 refl))
+    (opened_by handle (handle.entries ++ Called line (OpenHandle nonblock) Done ∷ []) true true kept.0
+    (keeps_opened Capture handle.entries (handle.entries ++ Called line (OpenHandle nonblock) Done ∷ []) line (OpenHandle nonblock) (local_of handle).opened (is_some handle.session) tt kept.1 refl))
 
 -- an open for which there was no memory
 pub seat_denied : (handle : HandleState) (line : ℕ) (nonblock : Bool) (errno : ℕ) → nonblock ≡ false → IsKept handle
     → seat_of (with_response handle line (OpenHandle nonblock) (Denied errno)) ≡ seat_of handle
 seat_denied handle line nonblock errno waits kept =
     ap (λ o. record { session = handle.session; opened = o })
-      (opened_by handle (handle.entries ++ Called line (OpenHandle nonblock) (Refused Enomem) ∷ []) (local_of handle).opened (is_some handle.session) kept.0
-        (keeps_refused Capture handle.entries (handle.entries ++ Called line (OpenHandle nonblock) (Refused Enomem) ∷ []) line (OpenHandle nonblock) Enomem (local_of handle).opened (is_some handle.session) waits refl kept.1 refl))
+    (opened_by handle (handle.entries ++ Called line (OpenHandle nonblock) (Refused Enomem) ∷ []) (local_of handle).opened (is_some handle.session) kept.0
+    (keeps_refused Capture handle.entries (handle.entries ++ Called line (OpenHandle nonblock) (Refused Enomem) ∷ []) line (OpenHandle nonblock) Enomem (local_of handle).opened (is_some handle.session) waits refl kept.1 refl))
 
 -- a close that was answered ok
 pub seat_closed : (handle : HandleState) (line : ℕ) → IsKept handle → (local_of handle).opened ≡ true
     → seat_of (with_response handle line CloseHandle Closed) ≡ record { session = handle.session; opened = false }
 seat_closed handle line kept is_open =
     ap (λ o. record { session = handle.session; opened = o })
-      (opened_by handle (handle.entries ++ Called line CloseHandle Done ∷ []) false (is_some handle.session) kept.0
-        (keeps_closed Capture handle.entries (handle.entries ++ Called line CloseHandle Done ∷ []) line (local_of handle).opened (is_some handle.session)
-          (ap (λ m. opened_after m handle) (sym kept.0) ∙ is_open) kept.1 refl))
+    (opened_by handle (handle.entries ++ Called line CloseHandle Done ∷ []) false (is_some handle.session) kept.0
+    (keeps_closed Capture handle.entries (handle.entries ++ Called line CloseHandle Done ∷ []) line (local_of handle).opened (is_some handle.session)
+    (ap (λ m. opened_after m handle) (sym kept.0) ∙ is_open) kept.1 refl))

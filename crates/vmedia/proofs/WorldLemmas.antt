@@ -71,9 +71,10 @@ can_post w sound = known (next_asked w.guest) refl
     known : (o : Option Asked) → next_asked w.guest ≡ o → CanPost o w.queue
     known None is = tt
     known (Some a) is =
-        let quiet = (quiet_next w a sound is).0 in
-        (omega (arith, sound.room, ap length quiet.0, ap length quiet.1, ap length quiet.2),
-         nobody (owners_of w.queue) 0 (rw (quiet.0, quiet.1, quiet.2) refl))
+        let quiet = (quiet_next w a sound is).0 in (
+          omega (arith, sound.room, ap length quiet.0, ap length quiet.1, ap length quiet.2),
+          nobody (owners_of w.queue) 0 (rw (quiet.0, quiet.1, quiet.2) refl),
+        )
 
 -- ---- a line is begun
 
@@ -91,7 +92,7 @@ begun_sound w a (Some c) g' q' sound asks is begins orderly =
     let there : IsSound (world_of (with_begun w.guest) w.host (posted w.queue (parcel_of c))) = record {
       orderly = subst IsOrderly begins.0 orderly;
       under_way = (let P : Option Asked → Type 0 = λ o. IsUnderWay o (world_of (with_begun w.guest) w.host (posted w.queue (parcel_of c))) in
-        subst P (sym at) (c, is, inl (rw quiet.0.0 refl, quiet.0.1, quiet.0.2, quiet.1, omega (arith, quiet.2))));
+          subst P (sym at) (c, is, inl (rw quiet.0.0 refl, quiet.0.1, quiet.0.2, quiet.1, omega (arith, quiet.2))));
       opens = sound.opens;
       room = sound.room;
     } in
@@ -103,7 +104,7 @@ begun_sound w a None g' q' sound asks is begins orderly =
     let kept = kept_in w.guest a w.guest.begun sound.orderly (each_before_next w.guest a sound.orderly asks) named in
     let none : awaited (with_refused w.guest a) ≡ None = ap (λ b. if b then asked_at w.guest.process ((w.guest.begun + 1) - 1) else None) (next_is w.guest a asks).0 in
     let seats : seats_of (with_refused w.guest a).handles ≡ seats_of w.guest.handles =
-      same_seats w.guest.handles a.handle _ (seat_refused (handle_in w.guest.handles a.handle) a.line a.call line.2 kept is) in
+    same_seats w.guest.handles a.handle _ (seat_refused (handle_in w.guest.handles a.handle) a.line a.call line.2 kept is) in
     let P : Option Asked → Type 0 = λ o. IsUnderWay o (world_of (with_refused w.guest a) w.host w.queue) in
     let Q : List Seat → Type 0 = λ ss. Agrees w.host.sessions ss in
     let there : IsSound (world_of (with_refused w.guest a) w.host w.queue) = record {
@@ -152,7 +153,7 @@ done_open host handles h line nonblock true waits within kept vacant agrees smal
     let none : (get_or (seats_of handles) h no_seat).session ≡ None = ap (λ s. s.session) (get_or-map seat_of handles h no_handle) ∙ vacant in
     let more = agrees_opened host.sessions (seats_of handles) h (omega (arith, within, length-map handles seat_of)) none agrees in
     let seats : seats_of (set handles h (with_response (handle_in handles h) line (OpenHandle nonblock) (Opened n))) ≡ set (seats_of handles) h seat =
-      map-set seat_of handles h _ ∙ ap (set (seats_of handles) h) (seat_opened (handle_in handles h) line nonblock n kept) in
+    map-set seat_of handles h _ ∙ ap (set (seats_of handles) h) (seat_opened (handle_in handles h) line nonblock n kept) in
     let P : List Seat → Type 0 = λ ss. Agrees (with_session host).sessions ss in
     record {
       may = tt;
@@ -163,7 +164,7 @@ done_open host handles h line nonblock true waits within kept vacant agrees smal
     }
 done_open host handles h line nonblock false waits within kept vacant agrees small =
     let seats : seats_of (set handles h (with_response (handle_in handles h) line (OpenHandle nonblock) (Denied 12))) ≡ seats_of handles =
-      same_seats handles h _ (seat_denied (handle_in handles h) line nonblock 12 waits kept) in
+    same_seats handles h _ (seat_denied (handle_in handles h) line nonblock 12 waits kept) in
     let P : List Seat → Type 0 = λ ss. Agrees host.sessions ss in
     record {
       may = refl;
@@ -181,9 +182,9 @@ done_close host handles h line id memory within kept is_open has lives agrees =
     let some : (get_or (seats_of handles) h no_seat).session ≡ Some id = ap (λ s. s.session) (get_or-map seat_of handles h no_handle) ∙ has in
     let fewer = agrees_closed host.sessions (seats_of handles) h id (omega (arith, within, length-map handles seat_of)) some agrees in
     let closed : seat_of (with_response (handle_in handles h) line CloseHandle Closed) ≡ seat =
-      seat_closed (handle_in handles h) line kept is_open ∙ ap (λ s. record { session = s; opened = false }) has in
+    seat_closed (handle_in handles h) line kept is_open ∙ ap (λ s. record { session = s; opened = false }) has in
     let seats : seats_of (set handles h (with_response (handle_in handles h) line CloseHandle Closed)) ≡ set (seats_of handles) h seat =
-      map-set seat_of handles h _ ∙ ap (set (seats_of handles) h) closed in
+    map-set seat_of handles h _ ∙ ap (set (seats_of handles) h) closed in
     let P : List Seat → Type 0 = λ ss. Agrees (without_session host id).sessions ss in
     let there : IsDone host handles h line CloseHandle (CloseSession id) (record { response = Closed; host = without_session host id }) = record {
       may = tt;
@@ -212,7 +213,7 @@ open_session host handles h c agrees crosses =
     let has : (handle_in handles h).session ≡ Some live.0 = ap (λ s. s.session) (sym at) ∙ live.1 in
     let below : live.0 < length host.sessions = agrees.ids.below h live.0 (get_or-map (λ s. s.session) (seats_of handles) h no_seat ∙ live.1) in
     let by : Some (CloseSession (unwrap_or (handle_in handles h).session 0)) ≡ Some c =
-      ap (λ b. if b then Some (CloseSession (unwrap_or (handle_in handles h).session 0)) else None) (sym is_open) ∙ crosses in
+    ap (λ b. if b then Some (CloseSession (unwrap_or (handle_in handles h).session 0)) else None) (sym is_open) ∙ crosses in
     (live.0, some_command _ c by ∙ ap (λ o. CloseSession (unwrap_or o 0)) has, has, live.2, below)
 
 -- what crosses is done for the handle
@@ -226,8 +227,10 @@ done host handles h line (OpenHandle nonblock) c memory built within kept crosse
 done host handles h line CloseHandle c memory built within kept crosses vacant agrees small =
     let own = open_session host handles h c agrees crosses in
     let P : Command → Type 0 = λ d. IsCommand d × IsDone host handles h line CloseHandle d (performed memory host d) in
-    subst P (sym own.1) (omega (arith, own.4, small),
-      done_close host handles h line own.0 memory within kept (open_where (handle_in handles h) c crosses) own.2 own.3 agrees)
+    subst P (sym own.1) (
+      omega (arith, own.4, small),
+      done_close host handles h line own.0 memory within kept (open_where (handle_in handles h) c crosses) own.2 own.3 agrees,
+    )
 done host handles h line call c memory built within kept crosses vacant agrees small = absurd built
 
 -- ---- a handle that is opened has no session before
@@ -279,18 +282,31 @@ executed_posted w a c turn h' q' sound awaits crosses posts executes =
     let kept = kept_in w.guest a (w.guest.begun - 1) sound.orderly each named in
     let small : length w.host.sessions < 2 ^ 32 = short_script w sound (omega (arith, posts.4)) in
     let work = done w.host w.guest.handles a.handle a.line a.call c memory line.2 named kept crosses
-      (λ nonblock opens. vacant_before w.guest a (w.guest.begun - 1) nonblock sound.orderly (awaited_is w.guest a awaits).1 each named opens) posts.3 small in
+    (λ nonblock opens. vacant_before w.guest a (w.guest.begun - 1) nonblock sound.orderly (awaited_is w.guest a awaits).1 each named opens) posts.3 small in
     let answer : performed memory w.host c ≡ record { response = r; host = h' } =
-      ap (answer_to memory w.host) (sym (posted_command c work.0)) ∙ doing.1.1.1 in
+    ap (answer_to memory w.host) (sym (posted_command c work.0)) ∙ doing.1.1.1 in
     let finish : IsDone w.host w.guest.handles a.handle a.line a.call c (record { response = r; host = h' }) =
-      subst (IsDone w.host w.guest.handles a.handle a.line a.call c) answer work.1 in
+    subst (IsDone w.host w.guest.handles a.handle a.line a.call c) answer work.1 in
     let queue = finished_alone w.queue q' c r posts.0 posts.1 posts.2 doing.1.2 in
     let U : Option Asked → Type 0 = λ o. IsUnderWay o (world_of w.guest h' q') in
     record {
       orderly = sound.orderly;
-      under_way = subst U (sym awaits) (c, crosses, inr (r, (
-        queue.0, queue.1, queue.2,
-        finish.may, finish.reply, finish.agrees, omega (arith, finish.count, posts.4))));
+      under_way = subst U (sym awaits) (
+        c,
+        crosses,
+        inr (
+          r,
+          (
+            queue.0,
+            queue.1,
+            queue.2,
+            finish.may,
+            finish.reply,
+            finish.agrees,
+            omega (arith, finish.count, posts.4),
+          ),
+        ),
+      );
       opens = omega (arith, finish.opens, sound.opens);
       room = omega (arith, queue.3, sound.room);
     }
@@ -314,6 +330,7 @@ may_execute w sound opens = known (awaited w.guest) refl sound.under_way
   where
     none_waits : w.queue.waiting ≡ [] → ⊥
     none_waits none = let P : List Parcel → Type 0 = λ ps. AsksToOpen (first_of ps) in subst P none opens
+
     known : (o : Option Asked) → awaited w.guest ≡ o → IsUnderWay o w → length w.host.sessions < w.host.opens
     known None is quiet = absurd (none_waits quiet.0.0)
     known (Some a) is under_way = elim under_way.2 [
@@ -332,7 +349,7 @@ read_back : (c : Command) (r : Response) → MayReply c r → (reply_in c (repli
 read_back c r may =
     let back : ReadsBack c r (response_bytes r) = response_again c r may in
     let bytes : take (length (response_bytes r)) (response_bytes r ++ drop (length (response_bytes r)) (parcel_of c).reply) ≡ response_bytes r =
-      take-front (response_bytes r) (drop (length (response_bytes r)) (parcel_of c).reply) in
+    take-front (response_bytes r) (drop (length (response_bytes r)) (parcel_of c).reply) in
     (ap (response_of c) bytes ∙ back.1, rw bytes back.0)
 
 reply_small : (r : Response) → length (response_bytes r) ≤ 304
@@ -346,19 +363,20 @@ may_collect w sound = known (awaited w.guest) refl sound.under_way
   where
     none : w.queue.done ≡ [] → IsReply (first_done w.queue) w.guest
     none empty = let P : List Finished → Type 0 = λ fs. IsReply (first_of fs) w.guest in subst P (sym empty) tt
+
     known : (o : Option Asked) → awaited w.guest ≡ o → IsUnderWay o w → IsReply (first_done w.queue) w.guest
     known None is quiet = none quiet.0.2
     known (Some a) is under_way = elim under_way.2 [
       | inl posts ↦ none posts.2
       | inr told ↦
-        let c : Command = under_way.0 in
-        let r : Response = told.0 in
-        let back = read_back c r told.1.4 in
-        let P : List Finished → Type 0 = λ fs. IsReply (first_of fs) w.guest in
-        let Q : Option Asked → Type 0 = λ o. IsReplyTo o w.guest (replied (parcel_of c) r) in
-        let R : Option Command → Type 0 = λ o. Replies o a.call (replied (parcel_of c) r) in
-        let S : Response → Type 0 = λ x. MayAnswer a.call x in
-        subst P (sym told.1.2) (subst Q (sym is) (subst R (sym under_way.1) (reply_small r, back.1, subst S (sym back.0) told.1.3)))
+          let c : Command = under_way.0 in
+          let r : Response = told.0 in
+          let back = read_back c r told.1.4 in
+          let P : List Finished → Type 0 = λ fs. IsReply (first_of fs) w.guest in
+          let Q : Option Asked → Type 0 = λ o. IsReplyTo o w.guest (replied (parcel_of c) r) in
+          let R : Option Command → Type 0 = λ o. Replies o a.call (replied (parcel_of c) r) in
+          let S : Response → Type 0 = λ x. MayAnswer a.call x in
+          subst P (sym told.1.2) (subst Q (sym is) (subst R (sym under_way.1) (reply_small r, back.1, subst S (sym back.0) told.1.3)))
     ]
 
 collected_told : (w : WorldState) (a : Asked) (c : Command) (r : Response) (turn : Turn) (g' : GuestState) (q' : Queue) → IsSound w → awaited w.guest ≡ Some a
@@ -369,8 +387,8 @@ collected_told w a c r turn g' q' sound asks crosses told collects orderly =
     let f : Finished = replied (parcel_of c) r in
     let after : GuestState = record w.guest { awaits = false; handles = handles_ahead w.guest a r } in
     let guest : g' ≡ after = doing.1 ∙ ap (λ o. with_reply o w.guest f) asks
-      ∙ ap (λ o. record w.guest { awaits = false; handles = handles_with o a f w.guest.handles }) crosses
-      ∙ ap (λ x. record w.guest { awaits = false; handles = handles_ahead w.guest a x }) (read_back c r told.4).0 in
+    ∙ ap (λ o. record w.guest { awaits = false; handles = handles_with o a f w.guest.handles }) crosses
+    ∙ ap (λ x. record w.guest { awaits = false; handles = handles_ahead w.guest a x }) (read_back c r told.4).0 in
     let there : IsSound (world_of after w.host (collected w.queue)) = record {
       orderly = subst IsOrderly guest orderly;
       under_way = ((told.0, told.1, rw told.2 refl), told.5, told.6);
@@ -437,11 +455,13 @@ some_enabled w sound more = known w.guest.awaits refl
   where
     count : length (enabled_in w) ≡ one_if (can_issue w.guest) + one_if (is_nonempty w.queue.waiting) + one_if (is_nonempty w.queue.done)
     count = length-enabled (can_issue w.guest) (is_nonempty w.queue.waiting) (is_nonempty w.queue.done)
+
     under : (a : Asked) → IsUnderWay (Some a) w → 0 < length (enabled_in w)
     under a under_way = elim under_way.2 [
       | inl posts ↦ let one : one_if (is_nonempty w.queue.waiting) ≡ 1 = ap (λ ps. one_if (is_nonempty ps)) posts.0 in omega (arith, count, one)
       | inr told ↦ let one : one_if (is_nonempty w.queue.done) ≡ 1 = ap (λ ps. one_if (is_nonempty ps)) told.1.2 in omega (arith, count, one)
     ]
+
     known : (b : Bool) → w.guest.awaits ≡ b → 0 < length (enabled_in w)
     known false is =
         let one : one_if (can_issue w.guest) ≡ 1 = ap one_if (may_issue (nat_lt w.guest.begun (length w.guest.process.lines)) w.guest.awaits is more) in
@@ -487,6 +507,7 @@ collect_falls w turn g' q' sound collects did = known w.queue.done refl collects
     same_lines : (o : Option Asked) (f : Finished) → (length (with_reply o w.guest f).process.lines ≡ length w.guest.process.lines) × ((with_reply o w.guest f).begun ≡ w.guest.begun)
     same_lines None f = (refl, refl)
     same_lines (Some a) f = (refl, refl)
+
     known : (fs : List Finished) → w.queue.done ≡ fs → Collects (first_of fs) w.guest w.queue turn g' q' → left_of (world_of g' w.host q') < left_of w
     known [] is collects = absurd (let no : Idle ≡ Did = sym collects.0 ∙ did in cc)
     known (f ∷ fs) is collects =
@@ -516,17 +537,17 @@ pub issue_turn : (w : WorldState) (turn : Turn) (g' : GuestState) (q' : Queue) �
 issue_turn w turn g' q' sound issues =
     let g : GuestState = w.guest in
     elim (turn_where (nat_lt g.begun (length g.process.lines)) g.awaits (asked_at g.process g.begun) (next_asked g)
-        (λ quiet more. asked_there g.process g.begun sound.orderly.read (within_where g.begun (length g.process.lines) more))
-        (λ quiet past. ap (option_and_then asked_by) (slice_get_past g.process.lines g.begun (beyond_where g.begun (length g.process.lines) past)))
-        refl) [
+    (λ quiet more. asked_there g.process g.begun sound.orderly.read (within_where g.begun (length g.process.lines) more))
+    (λ quiet past. ap (option_and_then asked_by) (slice_get_past g.process.lines g.begun (beyond_where g.begun (length g.process.lines) past)))
+    refl) [
       | inl may ↦
-        let P : Option Asked → Type 0 = λ o. Issues o g w.queue turn g' q' in
-        let doing = subst P may.1.1 issues in
-        doing.0 ∙ ap (λ b. if b then Did else Idle) (sym may.0)
+          let P : Option Asked → Type 0 = λ o. Issues o g w.queue turn g' q' in
+          let doing = subst P may.1.1 issues in
+          doing.0 ∙ ap (λ b. if b then Did else Idle) (sym may.0)
       | inr not_now ↦
-        let P : Option Asked → Type 0 = λ o. Issues o g w.queue turn g' q' in
-        let idle = subst P not_now.1 issues in
-        idle.0 ∙ ap (λ b. if b then Did else Idle) (sym not_now.0)
+          let P : Option Asked → Type 0 = λ o. Issues o g w.queue turn g' q' in
+          let idle = subst P not_now.1 issues in
+          idle.0 ∙ ap (λ b. if b then Did else Idle) (sym not_now.0)
     ]
 
 -- a step that is listed may be done
@@ -564,7 +585,7 @@ fresh_seat p g h fresh =
 fresh_agrees : (p : ProcessLines) (g : GuestState) → IsFresh p g → Agrees [] (seats_of g.handles)
 fresh_agrees p g fresh =
     let no_id : (h id : ℕ) → get_or (map (λ s. s.session) (seats_of g.handles)) h None ≡ Some id → ⊥ = λ h id stands.
-      (let none : None ≡ Some id = sym (get_or-map (λ s. s.session) (seats_of g.handles) h no_seat ∙ ap (λ s. s.session) (fresh_seat p g h fresh)) ∙ stands in cc) in
+    (let none : None ≡ Some id = sym (get_or-map (λ s. s.session) (seats_of g.handles) h no_seat ∙ ap (λ s. s.session) (fresh_seat p g h fresh)) ∙ stands in cc) in
     record {
       ids = record {
         below = λ h id stands. absurd (no_id h id stands);

@@ -57,7 +57,8 @@ empty_parcel = record { who = 0; command = replicate 304 0; len = 0; reply = rep
 abbrev pub parcel_of : Command → Parcel
 parcel_of c = record empty_parcel {
   command = command_bytes c ++ drop (length (command_bytes c)) (replicate 304 0);
-  len = length (command_bytes c) }
+  len = length (command_bytes c);
+}
 
 -- there is room for an entry
 abbrev pub HasRoom : HandleState → Type 0
@@ -69,8 +70,10 @@ with_begun g = record g { begun = g.begun + 1; awaits = true }
 
 -- the guest with the next line begun and refused, since its handle isn't open
 abbrev pub with_refused : GuestState → Asked → GuestState
-with_refused g a = record g { begun = g.begun + 1;
-  handles = slice_set g.handles a.handle (with_entry (handle_at g a.handle) a.line a.call (Refused Ebadf)) }
+with_refused g a = record g {
+  begun = g.begun + 1;
+  handles = slice_set g.handles a.handle (with_entry (handle_at g a.handle) a.line a.call (Refused Ebadf));
+}
 
 abbrev pub Begins : Option Command → Asked → GuestState → Queue → GuestState → Queue → Type 0
 Begins (Some c) a g q g' q' = (g' ≡ with_begun g) × (q' ≡ posted q (parcel_of c))

@@ -80,5 +80,15 @@ IsWritten held held' faults faults' text status result =
 abbrev pub Ends : List (List ℕ) → Option (List ℕ) → Option (List ℕ) → Option (List ℕ) → ℕ → ℕ → ℕ → ℕ → ℕ → Type 0
 Ends words left held held' sink_faults sink_faults' source_faults source_faults' result =
     ((status : ℕ) × (text : List ℕ) × Tells words left status text × IsWritten held held' sink_faults sink_faults' text status result)
-    ⊎ ((result ≡ 4) × IsSome (seed_in words) × Rose source_faults source_faults' × (held' ≡ held))
-    ⊎ ((result ≡ 6) × IsSome (seed_in words) × (held' ≡ held))
+    ⊎ (((result ≡ 4) × IsSome (seed_in words) × Rose source_faults source_faults' × (held' ≡ held))
+    ⊎ ((result ≡ 6) × IsSome (seed_in words) × (held' ≡ held)))
+
+-- ---- the statuses, each with its cause
+
+-- the text was written whole
+abbrev pub WritesText : Option (List ℕ) → Option (List ℕ) → (List ℕ → Type 0) → Type 0
+WritesText held held' P = (text : List ℕ) × P text × WasAppended held held' text
+
+-- the source's bytes, where it tells them, have this text
+abbrev pub ForBytes : Option (List ℕ) → (List ℕ → List ℕ → Type 0) → List ℕ → Type 0
+ForBytes left P text = IfSome left (λ bytes. P bytes text)

@@ -18,9 +18,15 @@ mod judge;
 mod number;
 mod printer;
 mod reader;
+#[cfg(test)]
+mod reader_tests;
 mod run;
+#[cfg(test)]
+mod run_tests;
 mod schedule;
 mod top;
+#[cfg(test)]
+mod top_tests;
 mod words;
 mod world;
 

@@ -1,9 +1,13 @@
 //! The top call: words, bytes and an outside in, a status and a text out.
 
-ghost use Rattle.std.specs.Prelude.{◌≡◌, ◌≤◌, Some, IfOk, IsErrOf, length, map};
+ghost use Rattle.std.specs.Prelude.{◌≡◌, ◌≤◌, ◌⊎◌, List, ℕ, None, Some, Ok, IfOk, IsErrOf, IsSome, length, map};
 ghost use Rattle.std.specs.String.{string_bytes};
+ghost use Rattle.vm_io.specs.Bytes.{NothingLeft, WasAppended, PartAppended};
 ghost use Rattle.vm_io.specs.Faults.{Rose};
-ghost use Rattle.vmedia.specs.Top.{script_limit, script_status, kind_text, fault_line, too_long_line, IsAnswer, IsWritten, Ends};
+ghost use Rattle.vm_script.specs.Grammar.{script_of};
+ghost use Rattle.vm_script.specs.Script.{ScriptLines};
+ghost use Rattle.vmedia.specs.Command.{seed_in};
+ghost use Rattle.vmedia.specs.Top.{script_limit, script_status, kind_text, fault_line, too_long_line, usage_line, IsAnswer, IsWritten, Tells, TellsRun, TellsFault, WritesText, ForBytes, Ends};
 
 use crate::judge::seed_in;
 use crate::printer::{push, push_number};
@@ -107,6 +111,7 @@ fn answer_to_bytes(alloc: Global, bytes: &[u8], seed: u64) -> Result<Answer, Mem
 // What is answered to what the source gives.
 fn answer_to_source<S: Source>(alloc: Global, src: &mut S, seed: u64) -> Result<Answer, Failure>
     ensures ok { IfOk result (λ a. IsAnswer (S.left src.old) a.status a.text.items) }
+    ensures read { IfOk result (λ a. a.status ≡ 0 → NothingLeft (S.left src.new)) }
     ensures source { IsErrOf result Failure.Source → Rose (S.faults src.old) (S.faults src.new) }
 {
     let answer = match read_all(alloc, src, SCRIPT_LIMIT) {
@@ -131,6 +136,21 @@ fn write<K: Sink>(sink: &mut K, text: &[u8], status: u8) -> u8
     }
 }
 
+// Serves the words: what was written, and why, stands in one clause, of which the top call's clauses follow.
+fn serve<S: Source, K: Sink>(alloc: Global, words: &[String], src: &mut S, sink: &mut K) -> u8
+    ensures ends { Ends (map string_bytes words.now) (S.left src.old) (K.held sink.old) (K.held sink.new) (K.faults sink.old) (K.faults sink.new) (S.faults src.old) (S.faults src.new) result }
+    ensures read { result ≡ 0 → NothingLeft (S.left src.new) }
+{
+    let Some(seed) = seed_in(words) else {
+        return write(sink, USAGE, BAD_WORDS);
+    };
+    match answer_to_source(alloc, src, seed) {
+        Ok(answer) => write(sink, &answer.text, answer.status),
+        Err(Failure::Source) => SOURCE_FAILED,
+        Err(Failure::Memory) => NO_MEMORY,
+    }
+}
+
 /// Serves the words of a command line: reads the source, judges the script, runs it, and writes its
 /// text to the sink. The result is the status with which the program ends.
 ///
@@ -151,15 +171,30 @@ pub fn top_plain<S: Source, K: Sink, E: Engine>(
     sink: &mut K,
     engine: &mut E,
 ) -> u8
-    ensures answers { Ends (map string_bytes words.now) (S.left src.old) (K.held sink.old) (K.held sink.new) (K.faults sink.old) (K.faults sink.new) (S.faults src.old) (S.faults src.new) result }
+    // The usage line was written whole, and the words are none of the served command lines.
+    ensures usage { result ≡ 2 → (seed_in (map string_bytes words.now) ≡ None) × WasAppended (K.held sink.old) (K.held sink.new) usage_line }
+    // Such words have no other status, unless the sink fails.
+    ensures bad_words { seed_in (map string_bytes words.now) ≡ None → (result ≡ 2) ⊎ (result ≡ 5) }
+    // The bytes are a script, and what was written is the text of a legal run of it.
+    ensures run { result ≡ 0 → IsSome (seed_in (map string_bytes words.now)) × WritesText (K.held sink.old) (K.held sink.new) (ForBytes (S.left src.old) TellsRun) }
+    // They were read to their end.
+    ensures read { result ≡ 0 → NothingLeft (S.left src.new) }
+    // The bytes are no script, or too many, and what was written tells the first fault.
+    ensures script { result ≡ 3 → IsSome (seed_in (map string_bytes words.now)) × WritesText (K.held sink.old) (K.held sink.new) (ForBytes (S.left src.old) TellsFault) }
+    // The source's faults rose, and nothing was written.
+    ensures source { result ≡ 4 → Rose (S.faults src.old) (S.faults src.new) × (K.held sink.new ≡ K.held sink.old) }
+    // The sink's faults rose, and a front of a text went out that these words and bytes have.
+    ensures sink { result ≡ 5 → Rose (K.faults sink.old) (K.faults sink.new)
+        × ((status : ℕ) × (text : List ℕ) × Tells (map string_bytes words.now) (S.left src.old) status text × PartAppended (K.held sink.old) (K.held sink.new) text) }
+    // Memory was wanting, and nothing was written.
+    ensures memory { result ≡ 6 → K.held sink.new ≡ K.held sink.old }
+    // Good words and a script lead to a run, unless memory is wanting or the outside fails.
+    ensures complete { (bytes : List ℕ) (s : ScriptLines) → IsSome (seed_in (map string_bytes words.now)) → S.left src.old ≡ Some bytes → length bytes ≤ script_limit → script_of bytes ≡ Ok s
+        → ¬ Rose (S.faults src.old) (S.faults src.new) → ¬ Rose (K.faults sink.old) (K.faults sink.new) → (result ≡ 0) ⊎ (result ≡ 6) }
+    // Each of these, in one: no other status comes.
+    ensures ends { Ends (map string_bytes words.now) (S.left src.old) (K.held sink.old) (K.held sink.new) (K.faults sink.old) (K.faults sink.new) (S.faults src.old) (S.faults src.new) result }
 {
+    // No line that is built makes a job, so the engine has nothing to do yet.
     let _engine = engine;
-    let Some(seed) = seed_in(words) else {
-        return write(sink, USAGE, BAD_WORDS);
-    };
-    match answer_to_source(alloc, src, seed) {
-        Ok(answer) => write(sink, &answer.text, answer.status),
-        Err(Failure::Source) => SOURCE_FAILED,
-        Err(Failure::Memory) => NO_MEMORY,
-    }
+    serve(alloc, words, src, sink)
 }

@@ -50,7 +50,10 @@ fn step_at(can_issue: bool, can_execute: bool, can_collect: bool, k: usize) -> O
     match (can_issue, can_execute, can_collect, k) {
         (true, _, _, 0) => Some(Step::Issue(0)),
         (false, true, _, 0) | (true, true, _, 1) => Some(Step::Execute),
-        (false, false, true, 0) | (true, false, true, 1) | (false, true, true, 1) | (true, true, true, 2) => Some(Step::Collect),
+        (false, false, true, 0)
+        | (true, false, true, 1)
+        | (false, true, true, 1)
+        | (true, true, true, 2) => Some(Step::Collect),
         _ => None,
     }
 }
@@ -71,6 +74,18 @@ impl<L: Link + Drop> World<L> {
         let host = Host::new(alloc, lines)?;
         Ok(World { guest, host, link })
     }
+
+    /// The link, once the run is over.
+    pub fn into_link(self) -> L
+        ensures { L.queue result ≡ self.queue }
+    {
+        let World {
+            guest: _,
+            host: _,
+            link,
+        } = self;
+        link
+    }
 }
 
 impl<L: Link> World<L> {
@@ -86,7 +101,9 @@ impl<L: Link> World<L> {
     pub fn enabled_len(&self) -> usize
         ensures { result ≡ length (enabled_in self.now) }
     {
-        usize::from(self.guest.can_issue()) + usize::from(self.link.untaken() > 0) + usize::from(self.link.uncollected() > 0)
+        usize::from(self.guest.can_issue())
+            + usize::from(self.link.untaken() > 0)
+            + usize::from(self.link.uncollected() > 0)
     }
 
     /// The step at a place among those that may be done, in order. `None` exactly from their number on.

@@ -7,4 +7,4 @@ pub invariant_of-result : goal.invariant_of-result
 invariant_of-result g c =
     let lines : c.len-lines.result ≡ length c.args.process.lines = search rules in
     sound_fresh c.args.process c.in_ok-guest.guest c.in_ok-host.host (g.L.Link.queue c.args.link) c.in_ok-guest.ensures.fresh c.in_ok-guest.ensures.orderly
-      (c.in_ok-host.ensures ∙ ap fresh_host lines) c.requires.room c.requires.empty
+    (c.in_ok-host.ensures ∙ ap fresh_host lines) c.requires.room c.requires.empty

@@ -1,0 +1,107 @@
+ghost use Rattle.std.specs.Prelude.{◌≤◌};
+
+use crate::top::top_plain;
+use std::alloc::{AllocError, Global};
+use std::test::Fail;
+use vm_io::{MemSink, MemSource, SureEngine};
+
+/// The status, and what the sink then holds.
+#[derive(Drop)]
+struct Told {
+    status: u8,
+    sink: MemSink,
+}
+
+/// What is told to words and a script. The source gives `piece` bytes a call, and so does the sink take
+/// them; each fails at the calls with these numbers.
+fn told(
+    alloc: Global,
+    words: &[&str],
+    script: &[u8],
+    piece: usize,
+    source_fails: &[u64],
+    sink_fails: &[u64],
+) -> Result<Told, AllocError>
+    requires { 1 ≤ piece }
+{
+    let mut line = Vec::new(alloc);
+    for word in words {
+        line.push(String::from_str(alloc, word)?)?;
+    }
+    let mut source = MemSource::new(
+        Vec::from_slice(alloc, script)?,
+        piece,
+        Vec::from_slice(alloc, source_fails)?,
+    );
+    let room = vec![in alloc; 0; 400]?;
+    let mut sink = MemSink::new(room, piece, Vec::from_slice(alloc, sink_fails)?);
+    let mut engine = SureEngine::new();
+    let status = top_plain(alloc, &line, &mut source, &mut sink, &mut engine);
+    Ok(Told { status, sink })
+}
+
+const EMPTY: &[u8] =
+    b"region\nwire e3b0c44298fc1c149afbf4c8996fb92427ae41e4649b934ca495991b7852b855\n";
+
+const OPEN_CLOSE: &[u8] =
+    b"handle 0 a 0\n1 open a = ok\n2 close a = ok\nregion\nwire 989fe555f0346a6e44705d83652bdf0d955caa2edeb1a615d82b93d7c7a00851\n";
+
+const USAGE: &[u8] = b"usage: vmedia check | step SEED | bulk N | run W\n";
+
+#[test]
+fn tells_runs_faults_and_usage(rt: HostRuntime) -> Result<(), Fail> {
+    let cases: [(&[&str], &[u8], u8, &[u8]); 12] = [
+        (&["step", "0"], b"", 0, EMPTY),
+        (&["step", "0"], b"open a\nclose a\n", 0, OPEN_CLOSE),
+        (
+            &["step", "18446744073709551615"],
+            b"open\ta\r\nclose  a",
+            0,
+            OPEN_CLOSE,
+        ),
+        (&["step", "18446744073709551616"], b"", 2, USAGE),
+        (&["step"], b"", 2, USAGE),
+        (&["step", "-1"], b"", 2, USAGE),
+        (&["run", "5"], b"", 2, USAGE),
+        (&["bulk", "0"], b"", 2, USAGE),
+        (
+            &["step", "0"],
+            b"open a\nopen a\n",
+            3,
+            b"script 2 NotBuilt\n",
+        ),
+        (
+            &["step", "0"],
+            b"open a nonblock\n",
+            3,
+            b"script 1 NotBuilt\n",
+        ),
+        (
+            &["step", "0"],
+            b"\n\ndevice capture\n",
+            3,
+            b"script 3 NotBuilt\n",
+        ),
+        (&["step", "0"], b"open a\nproc\n", 3, b"script 2 NotBuilt\n"),
+    ];
+    for (words, script, status, text) in cases {
+        let told = told(rt.alloc(), words, script, 4096, &[], &[])?;
+        assert_eq!(rt; told.status, status);
+        assert_eq!(rt; told.sink.held(), text);
+    }
+    Ok(())
+}
+
+#[test]
+fn tells_a_failing_outside(rt: HostRuntime) -> Result<(), Fail> {
+    let script = b"open a\nclose a\n";
+    for call in 1..4 {
+        let told = told(rt.alloc(), &["step", "0"], script, 10, &[call], &[])?;
+        assert_eq!(rt; told.status, 4);
+        assert_eq!(rt; told.sink.held().len(), 0);
+    }
+    let told = told(rt.alloc(), &["step", "0"], script, 10, &[], &[2])?;
+    assert_eq!(rt; told.status, 5);
+    assert_eq!(rt; told.sink.held(), &OPEN_CLOSE[..10]);
+    Ok(())
+}
