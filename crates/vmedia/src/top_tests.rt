@@ -14,7 +14,7 @@ struct Told {
 
 /// What is told to words and a script. The source gives `piece` bytes a call, and so does the sink take
 /// them; each fails at the calls with these numbers.
-fn told(
+fn answer_of(
     alloc: Global,
     words: &[&str],
     script: &[u8],
@@ -85,7 +85,7 @@ fn tells_runs_faults_and_usage(rt: HostRuntime) -> Result<(), Fail> {
         (&["step", "0"], b"open a\nproc\n", 3, b"script 2 NotBuilt\n"),
     ];
     for (words, script, status, text) in cases {
-        let told = told(rt.alloc(), words, script, 4096, &[], &[])?;
+        let told = answer_of(rt.alloc(), words, script, 4096, &[], &[])?;
         assert_eq!(rt; told.status, status);
         assert_eq!(rt; told.sink.held(), text);
     }
@@ -96,11 +96,11 @@ fn tells_runs_faults_and_usage(rt: HostRuntime) -> Result<(), Fail> {
 fn tells_a_failing_outside(rt: HostRuntime) -> Result<(), Fail> {
     let script = b"open a\nclose a\n";
     for call in 1..4 {
-        let told = told(rt.alloc(), &["step", "0"], script, 10, &[call], &[])?;
+        let told = answer_of(rt.alloc(), &["step", "0"], script, 10, &[call], &[])?;
         assert_eq!(rt; told.status, 4);
         assert_eq!(rt; told.sink.held().len(), 0);
     }
-    let told = told(rt.alloc(), &["step", "0"], script, 10, &[], &[2])?;
+    let told = answer_of(rt.alloc(), &["step", "0"], script, 10, &[], &[2])?;
     assert_eq!(rt; told.status, 5);
     assert_eq!(rt; told.sink.held(), &OPEN_CLOSE[..10]);
     Ok(())
