@@ -18,7 +18,7 @@ pub const ENTRIES_OF_A_LINE: usize = 4;
 pub enum Started {
     /// It is answered and logged.
     Answered,
-    /// It crosses: its command has `len` bytes.
+    /// It crosses to the device: its command has `len` bytes.
     Send { len: u32 },
 }
 
@@ -44,7 +44,7 @@ impl Model for Handle {
 }
 
 impl Handle {
-    /// A handle that is closed, with room for the entries of `lines` lines.
+    /// A handle of a device of this model, closed, with room for the log entries of `lines` lines.
     ///
     /// # Errors
     /// `Memory` where the log's memory can't be had.
@@ -107,7 +107,8 @@ impl Handle {
         });
     }
 
-    /// The command by which a call crosses, if it does.
+    /// The command by which a call crosses to the device, if it does: an open always, a close of an open
+    /// handle with its session.
     pub fn command(&self, call: &Call) -> Option<Command>
         requires { IsBuilt call.now }
         ensures { result ≡ asks self.now call.now }
@@ -121,7 +122,8 @@ impl Handle {
         }
     }
 
-    /// Begins a call: writes its command where it crosses, else answers it.
+    /// Begins a line's call. Where it crosses, its command is written at the front of `out`, which has
+    /// room for 16 bytes; a close of a handle that isn't open is logged as refused with EBADF.
     pub fn start(&mut self, line: u32, call: &Call, out: &mut [u8]) -> Started
         requires built { IsBuilt call.now }
         requires room { length self.old.entries < self.old.room }
@@ -139,7 +141,8 @@ impl Handle {
         }
     }
 
-    /// Logs a call that crossed, with the device's answer.
+    /// Logs a call that crossed, with the device's answer: an open may be refused with ENOMEM alone, a
+    /// close of an open handle not at all.
     pub fn reply(&mut self, line: u32, call: &Call, response: &Response)
         requires built { IsBuilt call.now }
         requires crossed { IsSome (asks self.old call.now) }
@@ -154,7 +157,7 @@ impl Handle {
         }
     }
 
-    /// The log, which is legal.
+    /// The log: the answered calls in order, each with its line and reply. It is legal.
     pub fn log(&self) -> &[Entry]
         ensures entries { result.now ≡ self.now.entries }
         ensures legal { IsLegal self.now.model self.now.entries }
@@ -162,7 +165,7 @@ impl Handle {
         &self.log
     }
 
-    /// The session's id, where an open was answered ok.
+    /// The session's id. `None` exactly where no open was answered ok; a close leaves it.
     pub fn session(&self) -> Option<u32>
         ensures session { result ≡ self.now.session }
         ensures there { is_some self.now.session ≡ has_opened self.now.entries }

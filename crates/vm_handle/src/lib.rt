@@ -4,3 +4,6 @@
 mod handle;
 
 pub use handle::{Handle, Started};
+
+#[cfg(test)]
+mod tests;

@@ -1,6 +1,5 @@
 -- Lemmas on what the device answers.
-use Rattle.std.proofs.Common.{◌≡◌, ℕ, zero, suc, ◌+◌, ◌<◌, Bool, true, Option, Some, None, Result, Ok, Err, List, [], ◌∷◌, ◌++◌, length, get_or, set, map, refl, sym, ap, ◌∙◌, arith, is_some, subst, min, Contains, cond}
-use Rattle.std.proofs.lemmas.Grind.{common_steps}
+use Rattle.std.proofs.Common.{◌≡◌, ℕ, zero, suc, ◌<◌, true, Option, Some, None, Result, Ok, List, [], ◌∷◌, ◌++◌, length, get_or, set, refl, sym, ap, ◌∙◌, arith, subst, Contains}
 use Rattle.std.proofs.lemmas.List.{length-map}
 use Rattle.std.proofs.lemmas.List.Elements.{Contains-push}
 use Rattle.vm_link.specs.declared.link.Turn.TheVariants.{Did}
@@ -8,15 +7,14 @@ use Rattle.vm_wire.specs.declared.response.Response.{Response}
 use Rattle.slab.specs.Slab.{Slab, get, Updates}
 use Rattle.vm_link.specs.Queue.{Queue, taken, finished, first_waiting, first_of, first_owner}
 use Rattle.vm_link.specs.declared.parcel.Parcel.{Parcel}
-use Rattle.vm_link.specs.declared.parcel.Finished.{Finished}
 use Rattle.vm_wire.specs.Wire.{judged}
 use Rattle.vm_wire.specs.declared.command.Command.{Command}
 use Rattle.vm_wire.specs.declared.command.Command.TheVariants.{OpenSession, CloseSession}
 use Rattle.vm_wire.specs.declared.command.CmdFault.{CmdFault}
-use Rattle.vm_wire.specs.declared.response.Response.TheVariants.{Refused, Opened, Closed}
+use Rattle.vm_wire.specs.declared.response.Response.TheVariants.{Opened, Closed}
 use Rattle.vm_host.specs.declared.session.Session.{Session}
 use Rattle.vm_host.specs.Sessions.{HostState, session_at, sessions_at, HasEachSession}
-use Rattle.vm_host.specs.Host.{Answer, performed, with_session, without_session, is_live, command_in, AsksToOpen, IsGiven, answer_to, replied, Executes}
+use Rattle.vm_host.specs.Host.{performed, command_in, AsksToOpen, IsGiven, answer_to, replied, Executes}
 use Rattle.vm_host.proofs.SessionLemmas.{opened, closed, live}
 
 -- the answer to an open for which there is memory
@@ -28,7 +26,7 @@ opened_answer opens old new keys key id each next vacant updates =
     rw (opened old new keys key (record { id = id }) each vacant updates, length-map keys (session_at old), next) refl
 
 -- a key that is found has a place
-found_within : (keys : List (Option ℕ)) (key id : ℕ) → get_or keys id None ≡ Some key → id < length keys
+pub found_within : (keys : List (Option ℕ)) (key id : ℕ) → get_or keys id None ≡ Some key → id < length keys
 found_within [] key id stands = cc
 found_within (k ∷ keys) key zero stands = omega arith
 found_within (k ∷ keys) key (suc id) stands = omega (arith, found_within keys key id stands)

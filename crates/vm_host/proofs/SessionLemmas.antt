@@ -1,7 +1,6 @@
 -- Lemmas on the sessions by their ids, where one is opened or closed.
-use Rattle.std.proofs.Common.{◌≡◌, ◌≢◌, ℕ, zero, suc, ◌+◌, ◌<◌, ◌≤◌, Option, Some, None, List, [], ◌∷◌, ◌++◌, length, get_or, set, map, refl, sym, ap, ◌∙◌, arith, IfSome, Bool, true, is_some, subst, inl, inr}
+use Rattle.std.proofs.Common.{◌≡◌, ◌≢◌, ℕ, suc, ◌<◌, Option, Some, None, List, [], ◌∷◌, ◌++◌, length, get_or, set, map, refl, sym, ap, ◌∙◌, arith, IfSome, subst, inl, inr}
 use Rattle.std.proofs.lemmas.Bool.{cases_eq}
-use Rattle.std.proofs.lemmas.Grind.{common_steps}
 use Rattle.std.proofs.lemmas.List.{map-append, map-set, length-set, get_or-set_same, get_or-set_other}
 use Rattle.std.proofs.Math.ListN.{get_or-map}
 use Rattle.slab.specs.Slab.{Slab, get, Updates}
@@ -35,7 +34,7 @@ id_in None = 0
 id_in (Some s) = s.id
 
 -- a key in the list leads to the session of its place
-leads_to : (slab : Slab Session) (keys : List (Option ℕ)) (key id : ℕ)
+pub leads_to : (slab : Slab Session) (keys : List (Option ℕ)) (key id : ℕ)
     → HasEachSession slab keys → id < length keys → get_or keys id None ≡ Some key → get slab key ≡ Some (record { id = id })
 leads_to slab keys key id each within stands =
     let P : Option ℕ → Type 0 = λ o. IfSome o (λ k. get slab k ≡ Some (record { id = id })) in subst P stands (each id within)

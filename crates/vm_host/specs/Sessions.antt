@@ -1,5 +1,5 @@
 -- The device's sessions by their ids.
-use Rattle.std.specs.Prelude.{ℕ, ◌≡◌, ◌<◌, Option, Some, None, List, length, map, slice_index_or, IfSome, option_and_then}
+use Rattle.std.specs.Prelude.{ℕ, ◌≡◌, ◌<◌, ◌+◌, Option, Some, None, List, [], ◌∷◌, length, map, slice_index_or, IfSome}
 use Rattle.slab.specs.Slab.{Slab, get}
 use Rattle.vm_host.specs.declared.session.Session.{Session}
 
@@ -20,3 +20,9 @@ sessions_at slab keys = map (session_at slab) keys
 abbrev pub HasEachSession : Slab Session → List (Option ℕ) → Type 0
 HasEachSession slab keys =
     (id : ℕ) → id < length keys → IfSome (slice_index_or keys id None) (λ key. get slab key ≡ Some (record { id = id }))
+
+-- how many places have a key
+abbrev pub key_count : List (Option ℕ) → ℕ
+key_count [] = 0
+key_count (None ∷ keys) = key_count keys
+key_count (Some key ∷ keys) = key_count keys + 1

@@ -26,14 +26,16 @@ pub struct Host {
 
 impl Model for Host {
     ghost use Rattle.std.specs.Prelude.{◌≡◌, ◌≤◌, ◌<◌, ◌^◌, ℕ, length, vec_capacity};
-    ghost use Rattle.vm_host.specs.Sessions.{HostState, sessions_at, HasEachSession};
+    ghost use Rattle.slab.specs.Slab.{slab_len};
+    ghost use Rattle.vm_host.specs.Sessions.{HostState, sessions_at, HasEachSession, key_count};
 
     ghost Value = { HostState };
 
     ghost view = { λ h. record { opens = h.opens; sessions = sessions_at h.sessions h.keys.items } };
 
+    // Each key leads to its session, and no other session is kept.
     ghost invariant = { λ h. (h.opens < 2 ^ 32) × (length h.keys.items ≤ h.opens) × (h.opens ≤ vec_capacity h.keys)
-        × HasEachSession h.sessions h.keys.items };
+        × HasEachSession h.sessions h.keys.items × (slab_len h.sessions ≡ key_count h.keys.items) };
 }
 
 // The errno by which a malformed command is refused.
@@ -125,7 +127,15 @@ impl Host {
     }
 
     /// Takes the command that waits first, does it, and sends its reply back. `Idle` exactly where
-    /// none waits.
+    /// none waits. Where it opens a session, fewer than `opens` sessions were opened before; no other
+    /// command takes memory.
+    ///
+    /// A malformed command is refused by its fault: EINVAL where it is short, EOPNOTSUPP where its number
+    /// is unknown, EMSGSIZE where its reply has too little room. A close of a session that isn't live is
+    /// refused with EBADF, and an open that finds no memory with ENOMEM. A refusal leaves the sessions as
+    /// they were.
+    ///
+    /// Source: own, after the sessions of the VIRTIO 1.4 draft's media device.
     pub fn execute<L: Link>(&mut self, link: &mut L) -> Turn
         requires { AsksToOpen (first_waiting (L.queue link.old)) → length self.old.sessions < self.old.opens }
         ensures { Executes (first_waiting (L.queue link.old)) self.old (L.queue link.old) result self.new (L.queue link.new) }

@@ -6,3 +6,6 @@ mod session;
 
 pub use host::Host;
 pub use session::Session;
+
+#[cfg(test)]
+mod tests;

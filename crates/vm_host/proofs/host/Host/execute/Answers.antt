@@ -1,7 +1,7 @@
 use Rattle.std.proofs.Common.{◌≡◌, refl, take, min, sym, subst, ◌∙◌, ap, Contains}
-use Rattle.vm_link.specs.Queue.{Queue, taken, finished}
-use Rattle.vm_wire.specs.Wire.{judged, response_bytes}
-use Rattle.vm_host.specs.Host.{command_in, replied}
+use Rattle.vm_link.specs.Queue.{Queue}
+use Rattle.vm_wire.specs.Wire.{judged}
+use Rattle.vm_host.specs.Host.{command_in}
 use Rattle.vm_host.proofs.AnswerLemmas.{asks_to_open, taken_is_out, executes}
 use Rattle.vm_host.proofs.host.Host.execute.Goals as goal
 
