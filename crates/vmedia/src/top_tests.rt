@@ -46,11 +46,18 @@ const EMPTY: &[u8] =
 const OPEN_CLOSE: &[u8] =
     b"handle 0 a 0\n1 open a = ok\n2 close a = ok\nregion\nwire 989fe555f0346a6e44705d83652bdf0d955caa2edeb1a615d82b93d7c7a00851\n";
 
+/// Several handles, with a comment, a blank line, tabs, closes of closed handles and no last newline.
+const SEVERAL: &[u8] =
+    b"# three handles\n\nopen a\n\topen  b \r\nclose a\nclose a\nopen c9\n# more\nclose c9\nclose b\nclose b";
+
+const SEVERAL_TEXT: &[u8] =
+    b"handle 0 a 0\n3 open a = ok\n5 close a = ok\n6 close a = err 9 EBADF\nhandle 0 b 1\n4 open b = ok\n10 close b = ok\n11 close b = err 9 EBADF\nhandle 0 c9 2\n7 open c9 = ok\n9 close c9 = ok\nregion\nwire b7bc582e23478317bccb88c62950db9b0f5bf4c9be9ddaf22bf55446725408d0\n";
+
 const USAGE: &[u8] = b"usage: vmedia check | step SEED | bulk N | run W\n";
 
 #[test]
 fn tells_runs_faults_and_usage(rt: HostRuntime) -> Result<(), Fail> {
-    let cases: [(&[&str], &[u8], u8, &[u8]); 12] = [
+    let cases: [(&[&str], &[u8], u8, &[u8]); 13] = [
         (&["step", "0"], b"", 0, EMPTY),
         (&["step", "0"], b"open a\nclose a\n", 0, OPEN_CLOSE),
         (
@@ -59,6 +66,7 @@ fn tells_runs_faults_and_usage(rt: HostRuntime) -> Result<(), Fail> {
             0,
             OPEN_CLOSE,
         ),
+        (&["step", "007"], SEVERAL, 0, SEVERAL_TEXT),
         (&["step", "18446744073709551616"], b"", 2, USAGE),
         (&["step"], b"", 2, USAGE),
         (&["step", "-1"], b"", 2, USAGE),
@@ -100,8 +108,29 @@ fn tells_a_failing_outside(rt: HostRuntime) -> Result<(), Fail> {
         assert_eq!(rt; told.status, 4);
         assert_eq!(rt; told.sink.held().len(), 0);
     }
-    let told = answer_of(rt.alloc(), &["step", "0"], script, 10, &[], &[2])?;
-    assert_eq!(rt; told.status, 5);
-    assert_eq!(rt; told.sink.held(), &OPEN_CLOSE[..10]);
+    // The text has 119 bytes, so the twelfth write is the last.
+    for call in 1..13 {
+        let told = answer_of(rt.alloc(), &["step", "0"], script, 10, &[], &[call])?;
+        assert_eq!(rt; told.status, 5);
+        let held = 10 * (call as usize - 1);
+        assert_eq!(rt; told.sink.held(), &OPEN_CLOSE[..held]);
+    }
+    Ok(())
+}
+
+#[test]
+fn tells_too_many_bytes_and_statements(rt: HostRuntime) -> Result<(), Fail> {
+    let long = vec![in rt.alloc(); b'\n'; 4_194_305]?;
+    let told = answer_of(rt.alloc(), &["step", "0"], &long, 4096, &[], &[])?;
+    assert_eq!(rt; told.status, 3);
+    assert_eq!(rt; told.sink.held(), b"script 0 TooLong\n".as_slice());
+    let mut many = Vec::new(rt.alloc());
+    many.extend_from_slice(b"open a\n")?;
+    for _ in 0..1024 {
+        many.extend_from_slice(b"close a\n")?;
+    }
+    let told = answer_of(rt.alloc(), &["step", "0"], &many, 4096, &[], &[])?;
+    assert_eq!(rt; told.status, 3);
+    assert_eq!(rt; told.sink.held(), b"script 1025 NotBuilt\n".as_slice());
     Ok(())
 }
