@@ -1,1 +1,4 @@
-pub mod OwnerLemmas
+mod HeadLemmas
+mod OutLemmas
+mod SoundLemmas
+pub mod QueueLemmas

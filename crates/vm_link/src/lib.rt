@@ -1,12 +1,18 @@
-//! The link between the driver and the device: commands go over, replies come back.
+//! The link between the driver and the device: two queues of parcels, for commands and for events.
 #![tactic(auto)]
 
+mod chain_lists;
+mod chains;
+mod heads;
 mod link;
 mod parcel;
+mod parcel_walk;
 mod plain_link;
+mod plain_queue;
 
-pub use link::{Link, Turn};
-pub use parcel::{Finished, MESSAGE_LEN, Parcel};
+pub use chains::{DoneChain, OutChain};
+pub use link::{Link, QueueId, Turn};
+pub use parcel::{Finished, Parcel, Taken};
 pub use plain_link::PlainLink;
 
 #[cfg(test)]

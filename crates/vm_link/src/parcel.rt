@@ -1,26 +1,53 @@
-/// How many bytes a command and a reply have room for.
-pub const MESSAGE_LEN: usize = 304;
+use std::marker::Model;
+use vm_chain::{ChainFault, Desc};
+use vm_frame::Held;
+use vm_mem::Page;
 
-/// A command on its way to the device, with the room for its reply.
+/// What the driver posts on a queue: a chain of descriptors, the pages that its bytes lie in, and the memories of buffers
+/// that move with it.
 ///
-/// Source: VIRTIO 1.3, 2.6 "Split Virtqueues"; the sizes are this project's own.
-#[derive(Clone, Copy, Debug, PartialEq, Eq)]
+/// Source: VIRTIO 1.3, 2.7 "Split Virtqueues"; that pages and memories move with the chain is own.
+#[derive(Drop)]
 pub struct Parcel {
-    /// Which process posted it. A link has at most one parcel of a process.
+    /// Who posted it: the process, or the number of the event's chain.
     pub who: u16,
-    /// The command, in its first `len` bytes.
-    pub command: [u8; MESSAGE_LEN],
-    /// The command's length in bytes. More than there is room for counts as all of it.
-    pub len: u16,
-    /// The room for the reply.
-    pub reply: [u8; MESSAGE_LEN],
+    /// The descriptors, of which the first is the chain's head. `next` counts from the table's start.
+    pub table: Vec<Desc>,
+    /// The pages.
+    pub pages: Vec<Page>,
+    /// The memories, in a vector whose room stays with the parcel.
+    pub held: Vec<Held>,
 }
 
-/// A parcel on its way back, with its reply.
-#[derive(Clone, Copy, Debug, PartialEq, Eq)]
+impl Model for Parcel {
+    ghost use Rattle.std.specs.Prelude.{vec_capacity};
+    ghost use Rattle.vm_link.specs.Parcel.{ParcelState};
+
+    ghost Value = { ParcelState };
+
+    ghost view = { λ p. record { who = p.who; table = p.table.items; pages = p.pages.items; held = p.held.items; room = vec_capacity p.held } };
+}
+
+/// A parcel that the device took, and what the walk of its table found.
+///
+/// Source: own.
+#[derive(Drop)]
+pub struct Taken {
+    /// The number that names the chain until it is collected.
+    pub head: u16,
+    /// The first fault of the walk, if there is one.
+    pub fault: Option<ChainFault>,
+    pub parcel: Parcel,
+}
+
+/// A parcel on its way back.
+///
+/// Source: VIRTIO 1.3, 2.7.8 "The Virtqueue Used Ring".
+#[derive(Drop)]
 pub struct Finished {
-    /// How many bytes of the reply the device wrote.
+    /// The number under which the device took it.
+    pub head: u16,
+    /// How many bytes the device wrote.
     pub used: u32,
-    /// The parcel, with the reply at the front of its room.
     pub parcel: Parcel,
 }

@@ -1,101 +1,93 @@
-ghost use Rattle.std.specs.Prelude.{◌≡◌, ◌<◌, Contains, IfOk, vec_len, vec_capacity};
-ghost use Rattle.vm_link.specs.Queue.{empty_queue, without};
+ghost use Rattle.std.specs.Prelude.{◌≡◌, IfOk};
+ghost use Rattle.vm_link.specs.Queue.{empty_queue};
 
-use crate::{Finished, Link, Parcel};
+use crate::plain_queue::PlainQueue;
+use crate::{Finished, Link, Parcel, QueueId, Taken};
 use std::alloc::Global;
-use std::collections::VecDeque;
 use std::marker::Model;
+use vm_chain::Chain;
 use vm_mem::Memory;
 
-/// A link that keeps its three lists as lists.
+/// A link that keeps its lists as lists.
+///
+/// Source: own.
 #[derive(Drop)]
 pub struct PlainLink {
-    room: usize,
-    waiting: VecDeque<Parcel>,
-    out: Vec<u16>,
-    done: VecDeque<Finished>,
+    command: PlainQueue,
+    event: PlainQueue,
 }
 
 impl Model for PlainLink {
-    ghost use Rattle.std.specs.Prelude.{◌≤◌, ◌<◌, ◌+◌, ◌^◌, length, vec_capacity};
-    ghost use Rattle.std.specs.VecDeque.{deque_capacity};
-    ghost use Rattle.vm_link.specs.Queue.{Queue};
+    ghost use Rattle.vm_link.specs.Queue.{Queues};
 
-    ghost Value = { Queue };
+    ghost Value = { Queues };
 
-    ghost view = { λ l. record { room = l.room; waiting = l.waiting.items; out = l.out.items; done = l.done.items } };
-
-    // Each list has room for all that the queue has room for, so no call takes memory.
-    ghost invariant = { λ l. (l.room < 2 ^ 16) × (l.room ≤ deque_capacity l.waiting) × (l.room ≤ vec_capacity l.out)
-        × (l.room ≤ deque_capacity l.done)
-        × (length l.waiting.items + length l.out.items + length l.done.items ≤ l.room) };
-}
-
-// Takes out of the list the one that is named, so that the list is shorter.
-fn remove_owner(owners: &mut Vec<u16>, who: u16)
-    requires { Contains owners.old.items who }
-    ensures list { owners.new.items ≡ without who owners.old.items }
-    ensures shorter { vec_len owners.new < vec_len owners.old }
-    ensures capacity { vec_capacity owners.new ≡ vec_capacity owners.old }
-{
-    owners.retain(|owner| *owner != who);
+    ghost view = { λ l. record { command = l.command; event = l.event } };
 }
 
 impl PlainLink {
-    /// An empty link with room for `room` parcels.
+    /// A link of two empty queues, of `command` and `event` descriptors.
     ///
     /// # Errors
     /// `Memory` where the lists' memory can't be had.
-    pub fn new(alloc: Global, room: u16) -> Result<PlainLink, Memory>
-        ensures { IfOk result (λ l. l ≡ empty_queue room) }
+    pub fn new(alloc: Global, command: u16, event: u16) -> Result<PlainLink, Memory>
+        ensures { IfOk result (λ l. l ≡ record { command = empty_queue command; event = empty_queue event }) }
     {
-        let room = usize::from(room);
-        let mut waiting = VecDeque::new(alloc);
-        let mut out = Vec::new(alloc);
-        let mut done = VecDeque::new(alloc);
-        waiting.reserve(room).map_err(|_| Memory)?;
-        out.reserve(room).map_err(|_| Memory)?;
-        done.reserve(room).map_err(|_| Memory)?;
-        Ok(PlainLink {
-            room,
-            waiting,
-            out,
-            done,
-        })
+        let command = PlainQueue::new(alloc, command)?;
+        let event = PlainQueue::new(alloc, event)?;
+        Ok(PlainLink { command, event })
     }
 }
 
 impl Link for PlainLink {
-    ghost queue = { λ l. l };
+    ghost queues = { λ l. l };
 
-    fn untaken(&self) -> u16 {
-        // The room bounds the length.
-        let _room = self.room;
-        self.waiting.len() as u16
+    fn free(&self, q: QueueId) -> u16 {
+        match q {
+            QueueId::Command => self.command.free(),
+            QueueId::Event => self.event.free(),
+        }
     }
 
-    fn uncollected(&self) -> u16 {
-        // The room bounds the length.
-        let _room = self.room;
-        self.done.len() as u16
+    fn untaken(&self, q: QueueId) -> u16 {
+        match q {
+            QueueId::Command => self.command.untaken(),
+            QueueId::Event => self.event.untaken(),
+        }
     }
 
-    fn post(&mut self, parcel: Parcel) {
-        self.waiting.push_back(parcel).unwrap();
+    fn uncollected(&self, q: QueueId) -> u16 {
+        match q {
+            QueueId::Command => self.command.uncollected(),
+            QueueId::Event => self.event.uncollected(),
+        }
     }
 
-    fn take(&mut self) -> Option<Parcel> {
-        let parcel = self.waiting.pop_front()?;
-        self.out.push_reserved(parcel.who);
-        Some(parcel)
+    fn post(&mut self, q: QueueId, parcel: Parcel) {
+        match q {
+            QueueId::Command => self.command.post(parcel),
+            QueueId::Event => self.event.post(parcel),
+        }
     }
 
-    fn finish(&mut self, done: Finished) {
-        remove_owner(&mut self.out, done.parcel.who);
-        self.done.push_back(done).unwrap();
+    fn take(&mut self, q: QueueId, chain: &mut Chain) -> Option<Taken> {
+        match q {
+            QueueId::Command => self.command.take(chain),
+            QueueId::Event => self.event.take(chain),
+        }
     }
 
-    fn collect(&mut self) -> Option<Finished> {
-        self.done.pop_front()
+    fn finish(&mut self, q: QueueId, done: Finished) {
+        match q {
+            QueueId::Command => self.command.finish(done),
+            QueueId::Event => self.event.finish(done),
+        }
+    }
+
+    fn collect(&mut self, q: QueueId) -> Option<Finished> {
+        match q {
+            QueueId::Command => self.command.collect(),
+            QueueId::Event => self.event.collect(),
+        }
     }
 }
