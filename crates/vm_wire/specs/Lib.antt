@@ -1,1 +1,3 @@
+pub mod Event
+pub mod Records
 pub mod Wire
