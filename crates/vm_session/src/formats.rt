@@ -1,0 +1,143 @@
+// What a session answers to the calls on the device and on formats.
+
+ghost use Rattle.std.specs.Prelude.{◌≡◌, IfOk, IfErr, OnErr, Ok, Err, length};
+ghost use Rattle.v4l_format.specs.Fmt.{IsAdjusted};
+ghost use Rattle.v4l_layout.specs.Records.{capability_size, fmtdesc_size, format_size};
+ghost use Rattle.vm_session.specs.Session.{adjusted_for, sized_as, is_source, with_format, with_set_format, querycap_row, enumfmt_row, gfmt_row, tryfmt_row, sfmt_row, outcome_of};
+
+use crate::Session;
+use crate::queue::set_format_at;
+use crate::session::place_in;
+use v4l_const::{Errno, FourCc};
+use v4l_format::{Fmt, adjust, nth_format};
+use vm_wire::{
+    Payload, capability_of, capability_payload, fmt_desc_answer, fmtdesc_payload, format_answer,
+    format_payload,
+};
+
+impl Session {
+    /// What the device is.
+    #[tactic(auto, unfolding(crate::specs::Session::querycap_row))]
+    pub(crate) fn querycap(&self) -> Payload
+        ensures value { outcome_of (querycap_row self.now) ≡ Ok (record { payload = result; next = self.now }) }
+        ensures size { length result ≡ capability_size }
+    {
+        capability_payload(&capability_of(self.model))
+    }
+
+    /// The format in place `i` of the queue of type `t`.
+    #[tactic(auto, unfolding(crate::specs::Session::enumfmt_row))]
+    pub(crate) fn enumfmt(&self, t: u32, i: u32) -> Result<Payload, Errno>
+        ensures ok { IfOk result (λ payload. outcome_of (enumfmt_row self.now t i) ≡ Ok (record { payload = payload; next = self.now })) }
+        ensures err { IfErr result (λ e. outcome_of (enumfmt_row self.now t i) ≡ Err e) }
+        ensures size { IfOk result (λ payload. length payload ≡ fmtdesc_size) }
+    {
+        self.check_type(t)?;
+        match nth_format(i) {
+            Some(code) => Ok(fmtdesc_payload(&fmt_desc_answer(t, i, code))),
+            None => Err(Errno::Einval),
+        }
+    }
+
+    /// The format of the queue of type `t`.
+    #[tactic(auto, unfolding(crate::specs::Session::gfmt_row))]
+    pub(crate) fn gfmt(&self, t: u32) -> Result<Payload, Errno>
+        ensures ok { IfOk result (λ payload. outcome_of (gfmt_row self.now t) ≡ Ok (record { payload = payload; next = self.now })) }
+        ensures err { IfErr result (λ e. outcome_of (gfmt_row self.now t) ≡ Err e) }
+        ensures size { IfOk result (λ payload. length payload ≡ format_size) }
+    {
+        self.check_type(t)?;
+        Ok(format_payload(&format_answer(t, &self.format_of(t))))
+    }
+
+    /// The format that the queue of type `t` would take where it were asked for this one.
+    #[tactic(auto, unfolding(crate::specs::Session::tryfmt_row))]
+    pub(crate) fn tryfmt(&self, t: u32, f: FourCc, w: u32, h: u32) -> Result<Payload, Errno>
+        ensures ok { IfOk result (λ payload. outcome_of (tryfmt_row self.now t f w h) ≡ Ok (record { payload = payload; next = self.now })) }
+        ensures err { IfErr result (λ e. outcome_of (tryfmt_row self.now t f w h) ≡ Err e) }
+        ensures size { IfOk result (λ payload. length payload ≡ format_size) }
+    {
+        self.check_type(t)?;
+        let format = self.adjusted_for(t, f, w, h);
+        Ok(format_payload(&format_answer(t, &format)))
+    }
+
+    /// Sets the format of the queue of type `t` to the one that it takes where it is asked for this one.
+    #[tactic(auto, unfolding(crate::specs::Session::sfmt_row))]
+    pub(crate) fn sfmt(&mut self, t: u32, f: FourCc, w: u32, h: u32) -> Result<Payload, Errno>
+        ensures ok { IfOk result (λ payload. outcome_of (sfmt_row self.old t f w h) ≡ Ok (record { payload = payload; next = self.new })) }
+        ensures err { IfErr result (λ e. outcome_of (sfmt_row self.old t f w h) ≡ Err e) }
+        ensures kept { OnErr result (self.new ≡ self.old) }
+        ensures size { IfOk result (λ payload. length payload ≡ format_size) }
+    {
+        self.check_type(t)?;
+        let format = self.adjusted_for(t, f, w, h);
+        self.set_format(t, format);
+        Ok(format_payload(&format_answer(t, &format)))
+    }
+
+    /// The format that the queue of type `t` takes where it is asked for this one.
+    fn adjusted_for(&self, t: u32, f: FourCc, w: u32, h: u32) -> Fmt
+        ensures value { result ≡ adjusted_for self.now t f w h }
+        ensures adjusted { IsAdjusted result }
+    {
+        let adjusted = adjust(f, w, h);
+        match self.model.source_queue() {
+            Some(source) if t == self.model.picture_queue() => sized_as(
+                &self.format_of(source),
+                &adjusted,
+            ),
+            _ => adjusted,
+        }
+    }
+
+    /// Sets the format of the queue of type `t`. Where the device makes its pictures from that queue's, they get
+    /// its size.
+    #[tactic(auto, unfolding(crate::specs::Session::with_set_format))]
+    fn set_format(&mut self, t: u32, format: Fmt)
+        requires { IsAdjusted format }
+        ensures { self.new ≡ with_set_format self.old t format }
+    {
+        if is_source(self.model.source_queue(), t) {
+            let pictures = self.model.picture_queue();
+            let sized = sized_as(&format, &self.format_of(pictures));
+            self.put_format(t, format);
+            self.put_format(pictures, sized);
+        } else {
+            self.put_format(t, format);
+        }
+    }
+
+    /// Sets the format of the queue of type `t` alone.
+    fn put_format(&mut self, t: u32, format: Fmt)
+        requires { IsAdjusted format }
+        ensures { self.new ≡ with_format self.old t format }
+    {
+        let place = place_in(self.model.queues(), t);
+        set_format_at(&mut self.queues, place, format);
+    }
+}
+
+/// Whether the device reads the queue of type `t`.
+fn is_source(source: Option<u32>, t: u32) -> bool
+    ensures { result ≡ is_source source t }
+{
+    match source {
+        Some(kind) => kind == t,
+        None => false,
+    }
+}
+
+/// A format with the size of another.
+fn sized_as(size: &Fmt, f: &Fmt) -> Fmt
+    requires size { IsAdjusted size.now }
+    requires adjusted { IsAdjusted f.now }
+    ensures value { result ≡ sized_as size.now f.now }
+    ensures adjusted { IsAdjusted result }
+{
+    Fmt {
+        code: f.code,
+        width: size.width,
+        height: size.height,
+    }
+}

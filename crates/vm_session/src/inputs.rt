@@ -1,0 +1,74 @@
+// What a session answers to the calls on inputs.
+
+ghost use Rattle.std.specs.Prelude.{◌≡◌, true, false, [], ◌∷◌, Some, None, IfOk, IfErr, OnOk, OnErr, Ok, Err, length};
+ghost use Rattle.v4l_const.specs.declared.errno.Errno.{Errno};
+ghost use Rattle.v4l_const.specs.Model.{has_inputs};
+ghost use Rattle.v4l_layout.specs.Records.{input_size};
+ghost use Rattle.vm_session.specs.Session.{no_inputs, no_input, first_refusal, enuminput_row, ginput_row, sinput_row, outcome_of};
+
+use crate::Session;
+use v4l_const::Errno;
+use vm_wire::{Payload, input_answer, input_payload, number_payload};
+
+/// How many inputs a device with inputs has.
+const INPUT_COUNT: u32 = 4;
+
+impl Session {
+    /// The input in place `i`.
+    #[tactic(auto, unfolding(crate::specs::Session::enuminput_row))]
+    pub(crate) fn enuminput(&self, i: u32) -> Result<Payload, Errno>
+        ensures ok { IfOk result (λ payload. outcome_of (enuminput_row self.now i) ≡ Ok (record { payload = payload; next = self.now })) }
+        ensures err { IfErr result (λ e. outcome_of (enuminput_row self.now i) ≡ Err e) }
+        ensures size { IfOk result (λ payload. length payload ≡ input_size) }
+    {
+        self.check_input(i)?;
+        Ok(input_payload(&input_answer(i)))
+    }
+
+    /// The input that is chosen.
+    #[tactic(auto, unfolding(crate::specs::Session::ginput_row))]
+    pub(crate) fn ginput(&self) -> Result<Payload, Errno>
+        ensures ok { IfOk result (λ payload. outcome_of (ginput_row self.now) ≡ Ok (record { payload = payload; next = self.now })) }
+        ensures err { IfErr result (λ e. outcome_of (ginput_row self.now) ≡ Err e) }
+        ensures size { IfOk result (λ payload. length payload ≡ 4) }
+    {
+        self.check_inputs()?;
+        Ok(number_payload(self.input))
+    }
+
+    /// Chooses the input in place `i`.
+    #[tactic(auto, unfolding(crate::specs::Session::sinput_row))]
+    pub(crate) fn sinput(&mut self, i: u32) -> Result<Payload, Errno>
+        ensures ok { IfOk result (λ payload. outcome_of (sinput_row self.old i) ≡ Ok (record { payload = payload; next = self.new })) }
+        ensures err { IfErr result (λ e. outcome_of (sinput_row self.old i) ≡ Err e) }
+        ensures kept { OnErr result (self.new ≡ self.old) }
+        ensures size { IfOk result (λ payload. length payload ≡ 4) }
+    {
+        self.check_input(i)?;
+        self.input = i;
+        Ok(number_payload(i))
+    }
+
+    /// Refuses where the model has no inputs.
+    fn check_inputs(&self) -> Result<(), Errno>
+        ensures ok { OnOk result (has_inputs self.now.model ≡ true) }
+        ensures err { IfErr result (λ e. (e ≡ Errno.Enotty) × (has_inputs self.now.model ≡ false)) }
+    {
+        if self.model.has_inputs() {
+            Ok(())
+        } else {
+            Err(Errno::Enotty)
+        }
+    }
+
+    /// Refuses an input that the model doesn't have.
+    fn check_input(&self, i: u32) -> Result<(), Errno>
+        ensures ok { OnOk result (first_refusal (no_inputs self.now ∷ no_input i ∷ []) ≡ None) }
+        ensures err { IfErr result (λ e. first_refusal (no_inputs self.now ∷ no_input i ∷ []) ≡ Some e) }
+    {
+        match self.check_inputs() {
+            Ok(()) if i >= INPUT_COUNT => Err(Errno::Einval),
+            checked => checked,
+        }
+    }
+}
