@@ -1,67 +1,110 @@
 -- Lemmas on what the device answers.
-use Rattle.std.proofs.Common.{◌≡◌, ℕ, zero, suc, ◌<◌, true, Option, Some, None, Result, Ok, List, [], ◌∷◌, ◌++◌, length, get_or, set, refl, sym, ap, ◌∙◌, arith, subst, Contains}
+use Rattle.std.proofs.Common.{◌≡◌, ℕ, true, false, Option, Some, None, is_some, IfSome, Result, Ok, Err, List, [], ◌∷◌, ◌++◌, length, get_or, set, refl, sym, ap, ◌∙◌, subst, if◌then◌else◌}
 use Rattle.std.proofs.lemmas.List.{length-map}
-use Rattle.std.proofs.lemmas.List.Elements.{Contains-push}
-use Rattle.vm_link.specs.declared.link.Turn.TheVariants.{Did}
-use Rattle.vm_wire.specs.declared.response.Response.{Response}
 use Rattle.slab.specs.Slab.{Slab, get, Updates}
-use Rattle.vm_link.specs.Queue.{Queue, taken, finished, first_waiting, first_of, first_owner}
-use Rattle.vm_link.specs.declared.parcel.Parcel.{Parcel}
-use Rattle.vm_wire.specs.Wire.{judged}
-use Rattle.vm_wire.specs.declared.command.Command.{Command}
-use Rattle.vm_wire.specs.declared.command.Command.TheVariants.{OpenSession, CloseSession}
-use Rattle.vm_wire.specs.declared.command.CmdFault.{CmdFault}
+use Rattle.v4l_const.specs.declared.errno.Errno.{Errno}
+use Rattle.v4l_const.specs.Model.{source_queue, picture_queue}
+use Rattle.v4l_const.specs.declared.ioctl_code.IoctlCode.{IoctlCode}
+use Rattle.v4l_const.specs.declared.ioctl_code.IoctlCode.TheVariants.{QueryCap, EnumFmt, GFmt, SFmt, TryFmt, EnumInput, GInput, SInput}
+use Rattle.v4l_format.specs.declared.fmt.Fmt.{Fmt}
+use Rattle.v4l_const.specs.declared.model.Model.{Model}
+use Rattle.vm_wire.specs.declared.command.Command.TheVariants.{OpenSession, CloseSession, Ioctl}
 use Rattle.vm_wire.specs.declared.response.Response.TheVariants.{Opened, Closed}
-use Rattle.vm_host.specs.declared.session.Session.{Session}
-use Rattle.vm_host.specs.Sessions.{HostState, session_at, sessions_at, HasEachSession}
-use Rattle.vm_host.specs.Host.{performed, command_in, AsksToOpen, IsGiven, answer_to, replied, Executes}
-use Rattle.vm_host.proofs.SessionLemmas.{opened, closed, live}
+use Rattle.vm_session.specs.declared.session.Session.{Session}
+use Rattle.vm_session.specs.Session.{IoctlAnswer, IoctlRow, opening_session, ioctl_row, ioctl_outcome, first_refusal, refused_or, with_format, with_set_format, is_source, querycap_row, enumfmt_row, gfmt_row, tryfmt_row, sfmt_row, enuminput_row, ginput_row, sinput_row, sized_as, queue_of}
+use Rattle.vm_host.specs.Sessions.{HostState, session_at, sessions_at, HasId, HasEachSession}
+use Rattle.vm_host.specs.Host.{performed, is_built, Calls, called, reply_to}
+use Rattle.vm_host.proofs.SessionLemmas.{opened, changed, changed_each, closed, found_at, found_within, leads_to, live_where}
+
+-- the device by its fields
+abbrev pub device : Model → ℕ → Slab Session → List (Option ℕ) → HostState
+device model opens slab keys = record { model = model; opens = opens; sessions = sessions_at slab keys }
 
 -- the answer to an open for which there is memory
-pub opened_answer : (opens : ℕ) (old new : Slab Session) (keys : List (Option ℕ)) (key id : ℕ)
-    → HasEachSession old keys → id ≡ length keys → get old key ≡ None → Updates old new key (Some (record { id = id }))
-    → performed true (record { opens = opens; sessions = sessions_at old keys }) OpenSession
-    ≡ record { response = Opened id; host = record { opens = opens; sessions = sessions_at new (keys ++ Some key ∷ []) } }
-opened_answer opens old new keys key id each next vacant updates =
-    rw (opened old new keys key (record { id = id }) each vacant updates, length-map keys (session_at old), next) refl
-
--- a key that is found has a place
-pub found_within : (keys : List (Option ℕ)) (key id : ℕ) → get_or keys id None ≡ Some key → id < length keys
-found_within [] key id stands = cc
-found_within (k ∷ keys) key zero stands = omega arith
-found_within (k ∷ keys) key (suc id) stands = omega (arith, found_within keys key id stands)
+pub opened_answer : (model : Model) (opens : ℕ) (old new : Slab Session) (keys : List (Option ℕ)) (key id : ℕ)
+    → HasEachSession old keys → id ≡ length keys → get old key ≡ None → Updates old new key (Some (opening_session model id))
+    → performed true (device model opens old keys) OpenSession ≡ record { response = Opened id; host = device model opens new (keys ++ Some key ∷ []) }
+opened_answer model opens old new keys key id each next vacant updates =
+    rw (opened old new keys key (opening_session model id) each vacant updates, length-map keys (session_at old), next) refl
 
 -- the answer to a close of a live session
-pub closed_answer : (opens : ℕ) (old new : Slab Session) (keys : List (Option ℕ)) (key id : ℕ)
+pub closed_answer : (model : Model) (opens : ℕ) (old new : Slab Session) (keys : List (Option ℕ)) (key id : ℕ)
     → HasEachSession old keys → get_or keys id None ≡ Some key → Updates old new key None
-    → performed true (record { opens = opens; sessions = sessions_at old keys }) (CloseSession id)
-    ≡ record { response = Closed; host = record { opens = opens; sessions = sessions_at new (set keys id None) } }
-closed_answer opens old new keys key id each stands updates =
-    let within : id < length keys = found_within keys key id stands in
-    rw (live old keys key id each within stands, closed old new keys key id each within stands updates) refl
+    → performed true (device model opens old keys) (CloseSession id) ≡ record { response = Closed; host = device model opens new (set keys id None) }
+closed_answer model opens old new keys key id each stands updates =
+    let live : is_some (get_or (sessions_at old keys) id None) ≡ true = ap is_some (found_at old keys key id stands) ∙ live_where old keys key id each (found_within keys key id stands) stands in
+    rw (live, closed old new keys key id each stands updates) refl
 
--- what is taken is what waited first
-pub asks_to_open : (o : Option Parcel) (p : Parcel) (d : Result Command CmdFault)
-    → Some p ≡ o → d ≡ judged (command_in p) 304 → d ≡ Ok OpenSession → AsksToOpen o
-asks_to_open o p d first exact opens = subst AsksToOpen first (sym exact ∙ opens)
+some_of : (o : Option Session) → is_some o ≡ true → (s : Session) × (o ≡ Some s)
+some_of None is = cc
+some_of (Some s) is = (s, refl)
 
-abbrev owner : Option Parcel → ℕ
-owner None = 0
-owner (Some p) = p.who
+-- the session that a key leads to
+pub session_there : (slab : Slab Session) (keys : List (Option ℕ)) (key id : ℕ) → HasEachSession slab keys → get_or keys id None ≡ Some key → (s : Session) × (get slab key ≡ Some s)
+session_there slab keys key id each stands = some_of (get slab key) (live_where slab keys key id each (found_within keys key id stands) stands)
 
--- a parcel that is taken is out
-pub taken_is_out : (q : Queue) (p : Parcel) → Some p ≡ first_waiting q → Contains (taken q).out p.who
-taken_is_out q p first = at_front q.waiting q.out p first
+same_slots : (old new : Slab Session) (keys : List (Option ℕ)) → new.slots ≡ old.slots → sessions_at new keys ≡ sessions_at old keys
+same_slots old new [] same = refl
+same_slots old new (None ∷ keys) same = ap (λ ss. None ∷ ss) (same_slots old new keys same)
+same_slots old new (Some k ∷ keys) same =
+    let here : get new k ≡ get old k = ap (λ slots. get_or slots k None) same in
+    let there : sessions_at new keys ≡ sessions_at old keys = same_slots old new keys same in
+    cc
+
+called_by : (model : Model) (opens : ℕ) (old new : Slab Session) (keys : List (Option ℕ)) (key id : ℕ) (outcome : Result IoctlAnswer Errno) (payload payload' : List ℕ) (result : Result (Unit {0}) Errno)
+    → HasEachSession old keys → get_or keys id None ≡ Some key → Calls old new key outcome payload payload' result
+    → called (device model opens old keys) id outcome ≡ record { response = reply_to result payload'; host = device model opens new keys }
+called_by model opens old new keys key id (Ok a) payload payload' result each stands calls = rw (calls.0, calls.1, changed old new keys key id a.next each stands calls.2) refl
+called_by model opens old new keys key id (Err errno) payload payload' result each stands calls = rw (calls.0, same_slots old new keys calls.2) refl
+
+-- the answer to a call in a live session
+pub called_answer : (model : Model) (opens : ℕ) (old new : Slab Session) (keys : List (Option ℕ)) (key id : ℕ) (s : Session) (code : IoctlCode) (payload payload' : List ℕ) (result : Result (Unit {0}) Errno)
+    → HasEachSession old keys → get_or keys id None ≡ Some key → get old key ≡ Some s → is_built code ≡ true → Calls old new key (ioctl_outcome s code payload) payload payload' result
+    → performed true (device model opens old keys) (Ioctl id code payload) ≡ record { response = reply_to result payload'; host = device model opens new keys }
+called_answer model opens old new keys key id s code payload payload' result each stands there built calls =
+    let live : get_or (sessions_at old keys) id None ≡ Some s = found_at old keys key id stands ∙ there in
+    rw (live, built) (called_by model opens old new keys key id (ioctl_outcome s code payload) payload payload' result each stands calls)
+
+-- ---- a session that is called keeps its id
+
+set_id : (s : Session) (t : ℕ) (f : Fmt) → (with_set_format s t f).id ≡ s.id
+unfolding with_set_format
+set_id s t f = elim (is_source (source_queue s.model) t) as (λ b. (if b then with_format (with_format s t f) (picture_queue s.model) (sized_as f (queue_of s (picture_queue s.model)).format) else with_format s t f).id ≡ s.id) [ true ↦ refl | false ↦ refl ]
+
+next_id : (s : Session) (code : IoctlCode) (payload : List ℕ) → (ioctl_row s code payload).next.id ≡ s.id
+unfolding querycap_row enumfmt_row gfmt_row tryfmt_row sfmt_row enuminput_row ginput_row sinput_row
+next_id s QueryCap payload = refl
+next_id s EnumFmt payload = refl
+next_id s GFmt payload = refl
+next_id s TryFmt payload = refl
+next_id s SFmt payload = set_id s _ _
+next_id s EnumInput payload = refl
+next_id s GInput payload = refl
+next_id s SInput payload = refl
+next_id s code payload = refl
+
+abbrev next_of : Result IoctlAnswer Errno → IoctlAnswer → IoctlAnswer
+next_of (Ok a) d = a
+next_of (Err e) d = d
+
+outcome_next : (o : Option Errno) (row : IoctlRow) (a : IoctlAnswer) → refused_or o (record { payload = row.payload; next = row.next }) ≡ Ok a → a.next ≡ row.next
+outcome_next None row a is = sym (ap (λ r. (next_of r a).next) is)
+outcome_next (Some e) row a is = cc
+
+still : (old new : Slab Session) (at : Option ℕ) (i : ℕ) → ((k : ℕ) → get old k ≡ get new k) → IfSome at (λ k. HasId i (get old k)) → IfSome at (λ k. HasId i (get new k))
+still old new None i same has = tt
+still old new (Some k) i same has = subst (HasId i) (same k) has
+
+-- each key still leads to its session once one of them was called
+pub called_each : (old new : Slab Session) (keys : List (Option ℕ)) (key id : ℕ) (s : Session) (code : IoctlCode) (payload payload' : List ℕ) (result : Result (Unit {0}) Errno)
+    → HasEachSession old keys → get_or keys id None ≡ Some key → get old key ≡ Some s → Calls old new key (ioctl_outcome s code payload) payload payload' result → HasEachSession new keys
+called_each old new keys key id s code payload payload' result each stands there calls = known (ioctl_outcome s code payload) refl calls
   where
-    at_front : (waiting : List Parcel) (out : List ℕ) (p : Parcel) → Some p ≡ first_of waiting → Contains (out ++ first_owner waiting) p.who
-    at_front [] out p first = cc
-    at_front (w ∷ ws) out p first = rw (ap owner first) (Contains-push out w.who)
+    own : s.id ≡ id
+    own = subst (HasId id) there (leads_to old keys key id each (found_within keys key id stands) stands)
 
--- the first that waits is taken and finished with its answer
-pub executes : (o : Option Parcel) (p : Parcel) (h h' : HostState) (q q' : Queue) (d : Result Command CmdFault) (r : Response)
-    → Some p ≡ o → d ≡ judged (command_in p) 304 → IsGiven (λ memory. answer_to memory h d) r h'
-    → q' ≡ finished (taken q) (replied p r) → Executes o h q Did h' q'
-executes o p h h' q q' d r first exact given done =
-    let P : Option Parcel → Type 0 = λ o. Executes o h q Did h' q' in
-    let Q : Result Command CmdFault → Type 0 = λ d. IsGiven (λ memory. answer_to memory h d) r h' in
-    subst P first (refl, (r, subst Q exact given, done))
+    known : (o : Result IoctlAnswer Errno) → ioctl_outcome s code payload ≡ o → Calls old new key o payload payload' result → HasEachSession new keys
+    known (Ok a) is calls =
+        changed_each old new keys key id a.next
+        (ap (λ x. x.id) (outcome_next (first_refusal (ioctl_row s code payload).refusals) (ioctl_row s code payload) a is) ∙ next_id s code payload ∙ own) each stands calls.2
+    known (Err errno) is calls = λ i inside. still old new (get_or keys i None) i (λ k. ap (λ slots. get_or slots k None) (sym calls.2)) (each i inside)

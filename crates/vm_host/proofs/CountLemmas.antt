@@ -1,11 +1,10 @@
 -- How many sessions are kept, where one is opened or closed.
-use Rattle.std.proofs.Common.{◌≡◌, ℕ, zero, suc, ◌+◌, Option, Some, None, List, [], ◌∷◌, ◌++◌, get_or, set, ap, ◌∙◌, arith}
+use Rattle.std.proofs.Common.{◌≡◌, ℕ, zero, suc, ◌+◌, true, Option, Some, None, is_some, List, [], ◌∷◌, ◌++◌, get_or, set, ap, ◌∙◌, arith}
 use Rattle.std.specs.Prelude.{OnSome}
 use Rattle.slab.specs.Slab.{Slab, get, slab_len}
-use Rattle.vm_host.specs.declared.session.Session.{Session}
+use Rattle.vm_session.specs.declared.session.Session.{Session}
 use Rattle.vm_host.specs.Sessions.{HasEachSession, key_count}
-use Rattle.vm_host.proofs.SessionLemmas.{leads_to}
-use Rattle.vm_host.proofs.AnswerLemmas.{found_within}
+use Rattle.vm_host.proofs.SessionLemmas.{live_where, found_within}
 
 key_count_push : (keys : List (Option ℕ)) (key : ℕ) → key_count (keys ++ Some key ∷ []) ≡ key_count keys + 1
 key_count_push [] key = omega arith
@@ -30,10 +29,10 @@ pub closed_count : (old new : Slab Session) (keys : List (Option ℕ)) (key id :
     → HasEachSession old keys → get_or keys id None ≡ Some key → removed ≡ get old key → OnSome removed (slab_len new + 1 ≡ slab_len old)
     → slab_len old ≡ key_count keys → slab_len new ≡ key_count (set keys id None)
 closed_count old new keys key id removed each stands found less counted =
-    let there : removed ≡ Some (record { id = id }) = found ∙ leads_to old keys key id each (found_within keys key id stands) stands in
+    let there : is_some removed ≡ true = ap is_some found ∙ live_where old keys key id each (found_within keys key id stands) stands in
     let fewer : slab_len new + 1 ≡ slab_len old = fewer_by removed there less in
     omega (arith, fewer, counted, key_count_cleared keys id key stands)
   where
-    fewer_by : (o : Option Session) → o ≡ Some (record { id = id }) → OnSome o (slab_len new + 1 ≡ slab_len old) → slab_len new + 1 ≡ slab_len old
+    fewer_by : (o : Option Session) → is_some o ≡ true → OnSome o (slab_len new + 1 ≡ slab_len old) → slab_len new + 1 ≡ slab_len old
     fewer_by None there less = cc
     fewer_by (Some s) there less = less

@@ -1,3 +1,6 @@
-pub mod SessionLemmas
 pub mod AnswerLemmas
+pub mod CarrierLemmas
 pub mod CountLemmas
+pub mod GrowthLemmas
+pub mod ServeLemmas
+pub mod SessionLemmas

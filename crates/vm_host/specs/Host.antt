@@ -1,24 +1,38 @@
 -- What the device answers to a command, and its sessions after it.
-use Rattle.std.specs.Prelude.{ℕ, ◌≡◌, Bool, Option, Some, None, Result, Ok, Err, List, [], ◌∷◌, ◌++◌, length, take, drop, if◌then◌else◌, is_some, min, slice_index_or, slice_set}
+use Rattle.std.specs.Prelude.{ℕ, ◌≡◌, Bool, true, false, Option, Some, None, Result, Ok, Err, List, [], ◌∷◌, ◌++◌, length, nat_lt, if◌then◌else◌, is_some, Contains, slice_index_or, slice_set}
+use Rattle.slab.specs.Slab.{Slab, Updates}
 use Rattle.v4l_const.specs.Errno.{errno_number}
+use Rattle.v4l_const.specs.IoctlCode.{payload_size}
 use Rattle.v4l_const.specs.declared.errno.Errno.{Errno}
 use Rattle.v4l_const.specs.declared.errno.Errno.TheVariants.{Einval, Eopnotsupp, Enotty, Emsgsize, Enomem, Ebadf}
-use Rattle.vm_link.specs.Queue.{Queue, taken, finished}
+use Rattle.v4l_const.specs.declared.ioctl_code.IoctlCode.{IoctlCode}
+use Rattle.v4l_const.specs.declared.ioctl_code.IoctlCode.TheVariants.{QueryCap, EnumFmt, GFmt, SFmt, TryFmt, EnumInput, GInput, SInput}
+use Rattle.v4l_const.specs.declared.model.Model.{Model}
+use Rattle.vm_mem.specs.declared.page.Page.{Page}
+use Rattle.vm_chain.specs.Chain.{writable_bytes}
+use Rattle.vm_chain.specs.Walk.{walk_of}
+use Rattle.vm_chain.specs.declared.desc.Desc.{Desc}
+use Rattle.vm_chain.specs.declared.fault.ChainFault.{ChainFault}
+use Rattle.vm_link.specs.Parcel.{homes_of}
+use Rattle.vm_link.specs.Queue.{Queue, heads_of}
+use Rattle.vm_link.specs.declared.chains.DoneChain.{DoneChain}
 use Rattle.vm_link.specs.declared.parcel.Parcel.{Parcel}
-use Rattle.vm_link.specs.declared.parcel.Finished.{Finished}
 use Rattle.vm_link.specs.declared.link.Turn.{Turn}
 use Rattle.vm_link.specs.declared.link.Turn.TheVariants.{Did, Idle}
 use Rattle.vm_wire.specs.Wire.{judged, response_bytes}
 use Rattle.vm_wire.specs.declared.command.Command.{Command}
-use Rattle.vm_wire.specs.declared.command.Command.TheVariants.{OpenSession, CloseSession}
+use Rattle.vm_wire.specs.declared.command.Command.TheVariants.{OpenSession, CloseSession, Ioctl, Map, Unmap}
 use Rattle.vm_wire.specs.declared.command.CmdFault.{CmdFault}
 use Rattle.vm_wire.specs.declared.command.CmdFault.TheVariants.{Short, UnknownCmd, UnknownIoctl, Room}
 use Rattle.vm_wire.specs.declared.response.Response.{Response}
-use Rattle.vm_wire.specs.declared.response.Response.TheVariants.{Refused, Opened, Closed}
+use Rattle.vm_wire.specs.declared.response.Response.TheVariants.{Refused, Opened, Closed, Answered}
+use Rattle.vm_session.specs.declared.session.Session.{Session}
+use Rattle.vm_session.specs.Session.{IoctlAnswer, opening_session, ioctl_outcome}
+use Rattle.vm_host.specs.Carrier.{readable_of, written}
 use Rattle.vm_host.specs.Sessions.{HostState}
 
-abbrev pub fresh_host : ℕ → HostState
-fresh_host opens = record { opens = opens; sessions = [] }
+abbrev pub fresh_host : Model → ℕ → HostState
+fresh_host model opens = record { model = model; opens = opens; sessions = [] }
 
 -- a reply, and the device after it
 pub record Answer : Type 0 where
@@ -28,22 +42,70 @@ pub record Answer : Type 0 where
 abbrev pub refused : Errno → HostState → Answer
 refused errno h = record { response = Refused (errno_number errno); host = h }
 
+-- ---- sessions
+
 -- the next session, under the next id
 abbrev pub with_session : HostState → HostState
-with_session h = record h { sessions = h.sessions ++ Some (record { id = length h.sessions }) ∷ [] }
+with_session h = record h { sessions = h.sessions ++ Some (opening_session h.model (length h.sessions)) ∷ [] }
 
 abbrev pub without_session : HostState → ℕ → HostState
 without_session h id = record h { sessions = slice_set h.sessions id None }
 
-abbrev pub is_live : HostState → ℕ → Bool
-is_live h id = is_some (slice_index_or h.sessions id None)
+-- the session of this id, while it is live
+abbrev pub session_of : HostState → ℕ → Option Session
+session_of h id = slice_index_or h.sessions id None
+
+-- what a call in a session gives: its payload goes back, and the session is as the call leaves it
+abbrev pub called : HostState → ℕ → Result IoctlAnswer Errno → Answer
+called h id (Ok a) = record { response = Answered a.payload; host = record h { sessions = slice_set h.sessions id (Some a.next) } }
+called h id (Err errno) = refused errno h
+
+-- the calls that are built
+abbrev pub is_built : IoctlCode → Bool
+is_built QueryCap = true
+is_built EnumFmt = true
+is_built GFmt = true
+is_built TryFmt = true
+is_built SFmt = true
+is_built EnumInput = true
+is_built GInput = true
+is_built SInput = true
+is_built code = false
+
+-- a call in a session that is live; one that isn't built is refused
+abbrev pub in_session : HostState → ℕ → Option Session → IoctlCode → List ℕ → Answer
+in_session h id None code payload = refused Ebadf h
+in_session h id (Some s) code payload = if is_built code then called h id (ioctl_outcome s code payload) else refused Eopnotsupp h
+
+-- ---- calls
+
+-- the payload has the size of its call's
+abbrev pub FitsCall : Command → Type 0
+FitsCall (Ioctl id code payload) = length payload ≡ payload_size code
+FitsCall c = Unit {0}
+
+-- What a call in the session at a key leaves: with the outcome's payload and session where it isn't refused, and else all
+-- as it was.
+abbrev pub Calls : Slab Session → Slab Session → ℕ → Result IoctlAnswer Errno → List ℕ → List ℕ → Result (Unit {0}) Errno → Type 0
+Calls old new key (Ok a) payload payload' result = (result ≡ Ok tt) × (payload' ≡ a.payload) × Updates old new key (Some a.next)
+Calls old new key (Err errno) payload payload' result = (result ≡ Err errno) × (payload' ≡ payload) × (new.slots ≡ old.slots)
+
+-- the reply to a call with this result and payload
+abbrev pub reply_to : Result (Unit {0}) Errno → List ℕ → Response
+reply_to (Ok done) payload = Answered payload
+reply_to (Err errno) payload = Refused (errno_number errno)
+
+-- ---- commands
 
 -- What a command does. Whether memory came for a new session is free.
 abbrev pub performed : Bool → HostState → Command → Answer
 performed memory h OpenSession =
     if memory then (record { response = Opened (length h.sessions); host = with_session h }) else refused Enomem h
 performed memory h (CloseSession id) =
-    if is_live h id then (record { response = Closed; host = without_session h id }) else refused Ebadf h
+    if is_some (session_of h id) then (record { response = Closed; host = without_session h id }) else refused Ebadf h
+performed memory h (Ioctl id code payload) = in_session h id (session_of h id) code payload
+performed memory h (Map id writable offset) = refused (if is_some (session_of h id) then Eopnotsupp else Ebadf) h
+performed memory h (Unmap addr) = refused Eopnotsupp h
 
 -- the errno by which a malformed command is refused
 abbrev pub errno_of_fault : CmdFault → Errno
@@ -61,25 +123,67 @@ answer_to memory h (Err f) = refused (errno_of_fault f) h
 abbrev pub IsGiven : (Bool → Answer) → Response → HostState → Type 0
 IsGiven answer response host = (memory : Bool) × (answer memory ≡ record { response = response; host = host })
 
--- the command that a parcel carries; a length past its room counts as all of it
-abbrev pub command_in : Parcel → List ℕ
-command_in p = take (min p.len 304) p.command
+-- ---- chains
 
--- the parcel on its way back, with the reply at the front of its room
-abbrev pub replied : Parcel → Response → Finished
-replied p response = record {
+-- how many descriptors of a chain the device visits at most
+abbrev pub chain_limit : ℕ
+chain_limit = 64
+
+-- the descriptors of a parcel's chain, or its first fault
+abbrev pub chain_in : Parcel → Result (List Desc) ChainFault
+chain_in p = walk_of p.table 0 chain_limit (homes_of p)
+
+-- a chain on its way back: how many bytes were written, and the parcel
+pub record Sent : Type 0 where
+  pub used : ℕ
+  pub parcel : Parcel
+
+-- nothing was written
+abbrev pub sent_empty : Parcel → Sent
+sent_empty p = record { used = 0; parcel = p }
+
+-- the reply stands at the front of what may be written
+abbrev pub sent_with : Parcel → List Desc → Response → Sent
+sent_with p descs response = record {
   used = length (response_bytes response);
-  parcel = record p { reply = response_bytes response ++ drop (length (response_bytes response)) p.reply };
+  parcel = record p { pages = written descs (response_bytes response) p.pages };
 }
 
--- The first parcel that waits is taken and finished with its answer; where none waits, nothing is done.
-abbrev pub Executes : Option Parcel → HostState → Queue → Turn → HostState → Queue → Type 0
-Executes None host queue turn host' queue' = (turn ≡ Idle) × (host' ≡ host) × (queue' ≡ queue)
-Executes (Some p) host queue turn host' queue' =
-    (turn ≡ Did) × ((response : Response) × IsGiven (λ memory. answer_to memory host (judged (command_in p) 304)) response host'
-    × (queue' ≡ finished (taken queue) (replied p response)))
+-- the command that a chain's bytes are, or their first fault
+abbrev pub asked_by : List Desc → List Page → Result Command CmdFault
+asked_by descs pages = judged (readable_of descs pages) (writable_bytes descs)
 
--- the parcel that waits first, if any, opens a session
-abbrev pub AsksToOpen : Option Parcel → Type 0
-AsksToOpen None = ⊥
-AsksToOpen (Some p) = judged (command_in p) 304 ≡ Ok OpenSession
+-- A chain goes back with its answer; one with fewer than 8 bytes to write goes back empty, and changes nothing.
+abbrev pub AnswersIf : Bool → List Desc → Parcel → HostState → Sent → HostState → Type 0
+AnswersIf true descs p h sent h' = (sent ≡ sent_empty p) × (h' ≡ h)
+AnswersIf false descs p h sent h' =
+    (response : Response) × IsGiven (λ memory. answer_to memory h (asked_by descs p.pages)) response h' × (sent ≡ sent_with p descs response)
+
+-- A chain with a fault goes back empty too.
+abbrev pub Serves : Result (List Desc) ChainFault → Parcel → HostState → Sent → HostState → Type 0
+Serves (Err fault) p h sent h' = (sent ≡ sent_empty p) × (h' ≡ h)
+Serves (Ok descs) p h sent h' = AnswersIf (nat_lt (writable_bytes descs) 8) descs p h sent h'
+
+-- what became of a chain with this fault or these descriptors, of which so many bytes were written
+abbrev pub Served : Option ChainFault → List Desc → Parcel → HostState → ℕ → Parcel → HostState → Type 0
+Served (Some fault) descs p h used p' h' = Serves (Err fault) p h (record { used = used; parcel = p' }) h'
+Served None descs p h used p' h' = Serves (Ok descs) p h (record { used = used; parcel = p' }) h'
+
+-- the chain of so many descriptors that was sent under this head
+abbrev pub done_as : ℕ → ℕ → Sent → DoneChain
+done_as head count sent = record { finished = record { head = head; used = sent.used; parcel = sent.parcel }; count = count }
+
+-- the chain that waited first is gone, and stands behind those that are finished
+abbrev pub moved_on : Queue → List Parcel → DoneChain → Queue
+moved_on q waiting done = record q { waiting = waiting; done = q.done ++ done ∷ [] }
+
+-- The first chain that waits is taken, served and finished; where none waits, nothing is done.
+abbrev pub Executes : List Parcel → HostState → Queue → Turn → HostState → Queue → Type 0
+Executes [] h q turn h' q' = (turn ≡ Idle) × (h' ≡ h) × (q' ≡ q)
+Executes (p ∷ ps) h q turn h' q' =
+    (turn ≡ Did) × ((head : ℕ) × (sent : Sent) × (¬ Contains (heads_of q) head) × Serves (chain_in p) p h sent h' × (q' ≡ moved_on q ps (done_as head (length p.table) sent)))
+
+-- the chain that waits first, if any, opens a session
+abbrev pub AsksToOpen : List Parcel → Type 0
+AsksToOpen [] = ⊥
+AsksToOpen (p ∷ ps) = (descs : List Desc) × (chain_in p ≡ Ok descs) × (asked_by descs p.pages ≡ Ok OpenSession)

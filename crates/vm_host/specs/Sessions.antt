@@ -1,10 +1,12 @@
 -- The device's sessions by their ids.
 use Rattle.std.specs.Prelude.{ℕ, ◌≡◌, ◌<◌, ◌+◌, Option, Some, None, List, [], ◌∷◌, length, map, slice_index_or, IfSome}
 use Rattle.slab.specs.Slab.{Slab, get}
-use Rattle.vm_host.specs.declared.session.Session.{Session}
+use Rattle.v4l_const.specs.declared.model.Model.{Model}
+use Rattle.vm_session.specs.declared.session.Session.{Session}
 
--- How many sessions may be opened, and by id each session that was opened, until it is closed.
+-- The device's model, how many sessions may be opened, and by id each session that was opened, until it is closed.
 pub record HostState : Type 0 where
+  pub model : Model
   pub opens : ℕ
   pub sessions : List (Option Session)
 
@@ -16,10 +18,15 @@ session_at slab (Some key) = get slab key
 abbrev pub sessions_at : Slab Session → List (Option ℕ) → List (Option Session)
 sessions_at slab keys = map (session_at slab) keys
 
--- each key leads to the session of its place
+-- the session that is there has this id
+abbrev pub HasId : ℕ → Option Session → Type 0
+HasId id None = ⊥
+HasId id (Some s) = s.id ≡ id
+
+-- each key leads to a session, whose id is the key's place
 abbrev pub HasEachSession : Slab Session → List (Option ℕ) → Type 0
 HasEachSession slab keys =
-    (id : ℕ) → id < length keys → IfSome (slice_index_or keys id None) (λ key. get slab key ≡ Some (record { id = id }))
+    (id : ℕ) → id < length keys → IfSome (slice_index_or keys id None) (λ key. HasId id (get slab key))
 
 -- how many places have a key
 abbrev pub key_count : List (Option ℕ) → ℕ

@@ -1,153 +1,151 @@
-ghost use Rattle.std.specs.Prelude.{◌≡◌, ◌<◌, IfOk, length, slice_index_or};
-ghost use Rattle.v4l_const.specs.Errno.{errno_number};
-ghost use Rattle.vm_link.specs.Queue.{first_waiting};
-ghost use Rattle.vm_host.specs.Host.{fresh_host, performed, answer_to, IsGiven, Executes, AsksToOpen, errno_of_fault};
+ghost use Rattle.std.specs.Prelude.{◌≡◌, ◌≤◌, ◌<◌, ◌*◌, IfOk, length, vec_capacity, Ok, None};
+ghost use Rattle.vm_link.specs.Queue.{queue_at};
+ghost use Rattle.vm_link.specs.declared.link.QueueId.TheVariants.{Command as Commands};
+ghost use Rattle.vm_wire.specs.declared.command.Command.TheVariants.{OpenSession};
+ghost use Rattle.vm_host.specs.Carrier.{StayInPages, Fits, written};
+ghost use Rattle.vm_host.specs.Host.{fresh_host, asked_by, Served, Executes, AsksToOpen};
 
-use crate::Session;
-use slab::Slab;
+use crate::carrier::{gather, spread};
+use crate::sessions::Sessions;
 use std::alloc::Global;
 use std::marker::Model;
-use v4l_const::Errno;
-use vm_link::{Finished, Link, MESSAGE_LEN, Parcel, Turn};
-use vm_mem::Memory;
-use vm_wire::{CmdFault, Command, Response, decode_command, encode_response};
+use v4l_const::Model as DeviceModel;
+use vm_chain::{Chain, ChainFault, Desc};
+use vm_link::{Finished, Link, Parcel, QueueId, Taken, Turn};
+use vm_mem::{Memory, PAGE_SIZE};
+use vm_wire::{decode_command, encode_response};
+
+/// How many descriptors of a chain are visited at most.
+const CHAIN_LIMIT: u16 = 64;
+
+/// How many bytes a chain has to have room for before anything is written.
+const STATUS_LEN: u32 = 8;
+
+/// How many bytes a reply has at most.
+const LONGEST_REPLY: usize = 304;
 
 /// The device, with the sessions that guests opened.
 ///
 /// A session's id is the number of its open among those that succeeded, and is never used again.
 #[derive(Drop)]
 pub struct Host {
-    // How many sessions may ever be opened: `keys` has room for so many.
-    opens: usize,
-    sessions: Slab<Session>,
-    // By id, where the session stands in the slab, until it is closed.
-    keys: Vec<Option<usize>>,
+    sessions: Sessions,
+    // The chain that is served, and the bytes that it asks with; between calls they mean nothing.
+    chain: Chain,
+    bytes: Vec<u8>,
 }
 
 impl Model for Host {
-    ghost use Rattle.std.specs.Prelude.{◌≡◌, ◌≤◌, ◌<◌, ◌^◌, ℕ, length, vec_capacity};
-    ghost use Rattle.slab.specs.Slab.{slab_len};
-    ghost use Rattle.vm_host.specs.Sessions.{HostState, sessions_at, HasEachSession, key_count};
+    ghost use Rattle.std.specs.Prelude.{◌≡◌, ◌≤◌, vec_capacity};
+    ghost use Rattle.vm_host.specs.Sessions.{HostState};
 
     ghost Value = { HostState };
 
-    ghost view = { λ h. record { opens = h.opens; sessions = sessions_at h.sessions h.keys.items } };
+    ghost view = { λ h. h.sessions };
 
-    // Each key leads to its session, and no other session is kept.
-    ghost invariant = { λ h. (h.opens < 2 ^ 32) × (length h.keys.items ≤ h.opens) × (h.opens ≤ vec_capacity h.keys)
-        × HasEachSession h.sessions h.keys.items × (slab_len h.sessions ≡ key_count h.keys.items) };
+    // There is room for the bytes of as many pages as a chain has descriptors.
+    ghost invariant = { λ h. (h.chain.limit ≡ 64) × (262144 ≤ vec_capacity h.bytes) };
 }
 
-// The errno by which a malformed command is refused.
-fn errno_of(fault: CmdFault) -> Errno
-    ensures { result ≡ errno_of_fault fault }
+// Writes a reply to the front of what may be written of a chain.
+fn write_reply(descs: &[Desc], parcel: &mut Parcel, reply: &[u8])
+    requires { StayInPages descs.now }
+    ensures { parcel.new ≡ record parcel.old { pages = written descs.now reply.now parcel.old.pages } }
+{
+    spread(descs, &mut parcel.pages, reply);
+}
+
+// Does what a chain without a fault asks, and gives how many bytes of its reply were written. A chain with fewer than 8
+// bytes to write asks nothing.
+fn answer(sessions: &mut Sessions, chain: &Chain, bytes: &mut Vec<u8>, parcel: &mut Parcel) -> u32
+    requires stay { StayInPages chain.now.descs }
+    requires few { length chain.now.descs ≤ 64 }
+    requires room { 262144 ≤ vec_capacity bytes.old }
+    requires opens { asked_by chain.now.descs parcel.old.pages ≡ Ok OpenSession → length sessions.old.sessions < sessions.old.opens }
+    ensures served { Served None chain.now.descs parcel.old sessions.old result parcel.new sessions.new }
+    ensures room { vec_capacity bytes.old ≤ vec_capacity bytes.new }
+{
+    let writable = chain.writable();
+    if writable < STATUS_LEN {
+        return 0;
+    }
+    gather(chain.descs(), &parcel.pages, bytes);
+    let response = sessions.answer(decode_command(bytes, writable));
+    let mut reply = [0; LONGEST_REPLY];
+    let len = encode_response(&response, &mut reply);
+    write_reply(chain.descs(), parcel, &reply[..len]);
+    len as u32
+}
+
+// Does what a chain asks, unless it has a fault.
+fn serve(
+    sessions: &mut Sessions,
+    chain: &Chain,
+    fault: Option<ChainFault>,
+    bytes: &mut Vec<u8>,
+    parcel: &mut Parcel,
+) -> u32
+    requires fits { fault ≡ None → Fits 64 chain.now.descs }
+    requires room { 262144 ≤ vec_capacity bytes.old }
+    requires opens { fault ≡ None → asked_by chain.now.descs parcel.old.pages ≡ Ok OpenSession → length sessions.old.sessions < sessions.old.opens }
+    ensures served { Served fault chain.now.descs parcel.old sessions.old result parcel.new sessions.new }
+    ensures room { vec_capacity bytes.old ≤ vec_capacity bytes.new }
 {
     match fault {
-        CmdFault::Short => Errno::Einval,
-        CmdFault::UnknownCmd => Errno::Eopnotsupp,
-        CmdFault::UnknownIoctl => Errno::Enotty,
-        CmdFault::Room => Errno::Emsgsize,
+        Some(_) => 0,
+        None => answer(sessions, chain, bytes, parcel),
     }
-}
-
-// The key that stands at an id's place.
-fn key_at(keys: &[Option<usize>], id: u32) -> Option<usize>
-    ensures { result ≡ slice_index_or keys.now id None }
-{
-    keys.get(id as usize).copied().flatten()
 }
 
 impl Host {
-    /// A device that may open `opens` sessions in its life.
+    /// A device of this model that may open `opens` sessions in its life.
     ///
     /// # Errors
-    /// `Memory` where the memory for the sessions' places can't be had.
-    pub fn new(alloc: Global, opens: u32) -> Result<Host, Memory>
-        ensures { IfOk result (λ h. h ≡ fresh_host opens) }
+    /// `Memory` where the memory for the sessions' places or for a chain can't be had.
+    pub fn new(alloc: Global, model: DeviceModel, opens: u32) -> Result<Host, Memory>
+        ensures { IfOk result (λ h. h ≡ fresh_host model opens) }
     {
-        let opens = opens as usize;
-        let mut keys = Vec::new(alloc);
-        keys.reserve(opens).map_err(|_| Memory)?;
+        let sessions = Sessions::new(alloc, model, opens)?;
+        let chain = Chain::room(alloc, CHAIN_LIMIT)?;
+        let bytes = Vec::with_capacity(alloc, usize::from(CHAIN_LIMIT) * PAGE_SIZE as usize)?;
         Ok(Host {
-            opens,
-            sessions: Slab::new(alloc),
-            keys,
+            sessions,
+            chain,
+            bytes,
         })
     }
 
-    // Opens the next session, unless there is no memory for it.
-    fn open_session(&mut self) -> Response
-        requires { length self.old.sessions < self.old.opens }
-        ensures { IsGiven (λ memory. performed memory self.old Command.OpenSession) result self.new }
-    {
-        let id = self.keys.len() as u32;
-        match self.sessions.insert(Session { id }) {
-            Ok(key) => {
-                self.keys.push_reserved(Some(key));
-                Response::Opened { session: id }
-            }
-            Err(_) => Response::Refused(Errno::Enomem.number()),
-        }
-    }
-
-    // Closes a session, if it is live.
-    fn close_session(&mut self, session: u32) -> Response
-        ensures { IsGiven (λ memory. performed memory self.old (Command.CloseSession session)) result self.new }
-    {
-        match key_at(&self.keys, session) {
-            Some(key) => {
-                self.sessions.try_remove(key);
-                self.keys[session as usize] = None;
-                Response::Closed
-            }
-            None => Response::Refused(Errno::Ebadf.number()),
-        }
-    }
-
-    // Does a command.
-    fn perform(&mut self, command: Command) -> Response
-        requires { command ≡ Command.OpenSession → length self.old.sessions < self.old.opens }
-        ensures { IsGiven (λ memory. performed memory self.old command) result self.new }
-    {
-        match command {
-            Command::OpenSession => self.open_session(),
-            Command::CloseSession { session } => self.close_session(session),
-        }
-    }
-
-    // Does what the bytes ask, or refuses them.
-    fn answer(&mut self, command: Result<Command, CmdFault>) -> Response
-        requires { command ≡ Ok Command.OpenSession → length self.old.sessions < self.old.opens }
-        ensures { IsGiven (λ memory. answer_to memory self.old command) result self.new }
-    {
-        match command {
-            Ok(command) => self.perform(command),
-            Err(fault) => Response::Refused(errno_of(fault).number()),
-        }
-    }
-
-    /// Takes the command that waits first, does it, and sends its reply back. `Idle` exactly where
-    /// none waits. Where it opens a session, fewer than `opens` sessions were opened before; no other
-    /// command takes memory.
+    /// Takes the chain that waits first, does the command that it brings, and sends the reply back. `Idle` exactly where
+    /// none waits. Where the command opens a session, fewer than `opens` sessions were opened before; no other command
+    /// takes memory.
     ///
-    /// A malformed command is refused by its fault: EINVAL where it is short, EOPNOTSUPP where its number
-    /// is unknown, EMSGSIZE where its reply has too little room. A close of a session that isn't live is
-    /// refused with EBADF, and an open that finds no memory with ENOMEM. A refusal leaves the sessions as
+    /// A chain with a fault, or with fewer than 8 bytes to write, goes back with nothing written. A malformed command is
+    /// refused by its fault: EINVAL where it is short, EOPNOTSUPP where its number is unknown, ENOTTY where its code is,
+    /// EMSGSIZE where its reply has too little room. A command for a session that isn't live is refused with EBADF, a call
+    /// that isn't built with EOPNOTSUPP, and an open that finds no memory with ENOMEM. A refusal leaves the sessions as
     /// they were.
     ///
     /// Source: own, after the sessions of the VIRTIO 1.4 draft's media device.
     pub fn execute<L: Link>(&mut self, link: &mut L) -> Turn
-        requires { AsksToOpen (first_waiting (L.queue link.old)) → length self.old.sessions < self.old.opens }
-        ensures { Executes (first_waiting (L.queue link.old)) self.old (L.queue link.old) result self.new (L.queue link.new) }
+        requires { AsksToOpen (queue_at Commands (L.queues link.old)).waiting → length self.old.sessions < self.old.opens }
+        ensures { Executes (queue_at Commands (L.queues link.old)).waiting self.old (queue_at Commands (L.queues link.old)) result self.new (queue_at Commands (L.queues link.new)) }
     {
-        let Some(mut parcel) = link.take() else {
+        let Some(taken) = link.take(QueueId::Command, &mut self.chain) else {
             return Turn::Idle;
         };
-        let len = usize::from(parcel.len).min(MESSAGE_LEN);
-        let command = decode_command(&parcel.command[..len], MESSAGE_LEN as u32);
-        let response = self.answer(command);
-        let used = encode_response(&response, &mut parcel.reply) as u32;
-        link.finish(Finished { used, parcel });
+        let Taken {
+            head,
+            fault,
+            mut parcel,
+        } = taken;
+        let used = serve(
+            &mut self.sessions,
+            &self.chain,
+            fault,
+            &mut self.bytes,
+            &mut parcel,
+        );
+        link.finish(QueueId::Command, Finished { head, used, parcel });
         Turn::Did
     }
 }

@@ -1,11 +1,11 @@
 //! The device: its sessions, and what it answers to the commands that come over the link.
 #![tactic(auto)]
 
+mod carrier;
 mod host;
-mod session;
+mod sessions;
 
 pub use host::Host;
-pub use session::Session;
 
 #[cfg(test)]
 mod tests;

@@ -1,26 +1,31 @@
-use Rattle.std.proofs.Common.{◌≡◌, refl, take, min, sym, subst, ◌∙◌, ap, Contains}
-use Rattle.vm_link.specs.Queue.{Queue}
-use Rattle.vm_wire.specs.Wire.{judged}
-use Rattle.vm_host.specs.Host.{command_in}
-use Rattle.vm_host.proofs.AnswerLemmas.{asks_to_open, taken_is_out, executes}
+use Rattle.std.proofs.Common.{◌<◌, length, sym, ap, subst, refl}
+use Rattle.vm_host.specs.Sessions.{HostState}
+use Rattle.vm_host.specs.Host.{Executes}
+use Rattle.vm_link.specs.Queue.{Queue, queue_at}
+use Rattle.vm_link.specs.declared.link.Turn.TheVariants.{Did}
+use Rattle.vm_link.specs.declared.link.QueueId.TheVariants.{Command}
+use Rattle.vm_link.proofs.QueueLemmas.{taken_is_out}
+use Rattle.vm_host.proofs.ServeLemmas.{walked_fits, taken_opens, executed}
 use Rattle.vm_host.proofs.host.Host.execute.Goals as goal
 
-pub answer-response-requires : goal.answer-response-requires
-answer-response-requires g c =
-    let len : c.min-len.result ≡ min c.in-Some.parcel.len 304 = c.min-len.ensures ∙ ap (λ n. min n 304) c.from.ensures in
-    let exact : c.decode_command-command.result ≡ judged (command_in c.in-Some.parcel) 304 =
-    c.decode_command-command.ensures.exact ∙ ap (λ n. judged (take n c.in-Some.parcel.command) 304) len in
-    λ opens. c.requires (asks_to_open _ c.in-Some.parcel _ c.in-Some.ensures.parcel exact opens)
+pub serve-used-requires-clause-fits : goal.serve-used-requires-clause-fits
+serve-used-requires-clause-fits g c =
+    walked_fits (queue_at Command (g.L.Link.queues c.args.link.now)) (queue_at Command (g.L.Link.queues c.take.new.self)) c.self.inside.chain c.take.new.chain c.in-Some.taken c.self.invariant.0 c.in-Some.ensures.taken
+
+pub serve-used-requires-clause-opens : goal.serve-used-requires-clause-opens
+serve-used-requires-clause-opens g c =
+    let P : HostState → Type 0 = λ h. length h.sessions < h.opens in
+    λ none opens. subst P (sym c.self.view_is)
+    (c.requires (taken_opens (queue_at Command (g.L.Link.queues c.args.link.now)) (queue_at Command (g.L.Link.queues c.take.new.self)) c.self.inside.chain c.take.new.chain c.in-Some.taken c.self.invariant.0 c.in-Some.ensures.taken none opens))
 
 pub finish-requires : goal.finish-requires
 finish-requires g c =
-    let P : Queue → Type 0 = λ q. Contains q.out c.in-Some.parcel.who in
-    subst P (sym c.take.ensures.queue) (taken_is_out (g.L.Link.queue c.args.link.now) c.in-Some.parcel c.in-Some.ensures.parcel)
+    taken_is_out (queue_at Command (g.L.Link.queues c.args.link.now)) c.self.inside.chain c.in-Some.taken (queue_at Command (g.L.Link.queues c.take.new.self)) c.take.new.chain c.in-Some.ensures.taken
 
 pub returns : goal.returns
 returns g c =
-    let len : c.min-len.result ≡ min c.in-Some.parcel.len 304 = c.min-len.ensures ∙ ap (λ n. min n 304) c.from.ensures in
-    let exact : c.decode_command-command.result ≡ judged (command_in c.in-Some.parcel) 304 =
-    c.decode_command-command.ensures.exact ∙ ap (λ n. judged (take n c.in-Some.parcel.command) 304) len in
-    executes _ c.in-Some.parcel _ _ _ _ _ c.answer-response.result c.in-Some.ensures.parcel exact c.answer-response.ensures
-    (rw (c.finish.ensures, c.take.ensures.queue, c.encode_response-used.ensures.bytes, c.encode_response-used.ensures.count) refl)
+    let q : Queue = queue_at Command (g.L.Link.queues c.args.link.now) in
+    let P : HostState → Type 0 = λ h. Executes q.waiting h q Did c.serve-used.new.sessions (queue_at Command (g.L.Link.queues c.finish.new.self)) in
+    subst P c.self.view_is (executed q (queue_at Command (g.L.Link.queues c.take.new.self)) (queue_at Command (g.L.Link.queues c.finish.new.self)) c.self.inside.chain c.take.new.chain c.in-Some.taken
+    c.self.inside.sessions c.serve-used.new.sessions c.serve-used.result c.serve-used.new.parcel (record { head = c.in-Some.taken.head; used = c.serve-used.result; parcel = c.serve-used.new.parcel }) c.self.invariant.0 c.in-Some.ensures.taken
+    c.serve-used.ensures.served refl (ap (queue_at Command) c.finish.ensures))

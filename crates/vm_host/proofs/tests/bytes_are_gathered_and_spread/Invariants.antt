@@ -1,0 +1,6 @@
+use Rattle.std.proofs.Common.{◌≡◌, ◌≤◌, length}
+use Rattle.vm_host.proofs.tests.bytes_are_gathered_and_spread.Given as goal
+
+-- at most one session was opened in each row
+abbrev pub invariant-loop-numbers : goal.invariant-loop-numbers
+invariant-loop-numbers g l = (l.host.opens ≡ 64) × (length l.host.sessions ≤ l.numbers-index)
