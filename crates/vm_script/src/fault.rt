@@ -1,4 +1,5 @@
 use thiserror::Error;
+use vm_mem::Memory;
 
 /// What is wrong with a script's line.
 #[derive(Clone, Copy, Debug, PartialEq, Eq)]
@@ -38,4 +39,15 @@ pub enum ScriptError {
     Fault(ScriptFault),
     #[error("out of memory")]
     Memory,
+}
+
+impl From<Memory> for ScriptError {
+    ghost use Rattle.std.specs.Prelude.{◌≡◌};
+    ghost use Rattle.vm_script.specs.declared.fault.ScriptError.TheVariants.{Memory as Lacking};
+
+    ghost from_gives = { λ memory e. e ≡ Lacking };
+
+    fn from(_memory: Memory) -> ScriptError {
+        ScriptError::Memory
+    }
 }

@@ -3,10 +3,24 @@
 
 mod echo;
 mod fault;
+mod forms;
+mod laws;
 mod line;
+mod number;
+mod reader;
 mod script;
+mod statement;
+mod values;
+mod verb;
+mod words;
 
 pub use echo::Echo;
 pub use fault::{ScriptError, ScriptFault, ScriptKind};
+pub use laws::{scripts_are_of_one_process, texts_read_as_one_call};
 pub use line::{Line, LineKind, RawChain};
+pub use number::number_of;
+pub use reader::read_script;
 pub use script::{Process, STATEMENT_LIMIT, Script};
+
+#[cfg(test)]
+mod tests;

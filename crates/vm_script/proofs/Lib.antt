@@ -1,0 +1,7 @@
+pub mod FormLemmas
+pub mod LineLemmas
+pub mod NumberLemmas
+pub mod ReaderLemmas
+pub mod ScriptLemmas
+pub mod StatementLemmas
+pub mod WordLemmas
