@@ -1,25 +1,23 @@
 -- One handle of the driver.
-use Rattle.std.specs.Prelude.{ℕ, ◌≡◌, Bool, true, false, List, [], ◌∷◌, ◌++◌, Option, Some, None, length, drop, unwrap_or}
+use Rattle.std.specs.Prelude.{ℕ, ◌≡◌, ◌<◌, ◌^◌, Bool, true, false, List, [], ◌∷◌, ◌++◌, Option, Some, None, length, drop, unwrap_or}
 use Rattle.std.specs.List.{list_any}
-use Rattle.v4l_const.specs.Errno.{errno_number}
-use Rattle.v4l_const.specs.declared.errno.Errno.{Errno}
-use Rattle.v4l_const.specs.declared.errno.Errno.TheVariants.{Enomem, Ebadf}
+use Rattle.v4l_const.specs.declared.errno.Errno.TheVariants.{Ebadf}
 use Rattle.v4l_const.specs.declared.model.Model.{Model}
 use Rattle.vm_local.specs.declared.call.Call.{Call}
-use Rattle.vm_local.specs.declared.call.Call.TheVariants.{OpenHandle, CloseHandle}
+use Rattle.vm_local.specs.declared.call.Call.TheVariants.{OpenHandle, CloseHandle, QueryCap, EnumFmt, GFmt, TryFmt, SFmt, EnumInput, GInput, SInput}
 use Rattle.vm_local.specs.declared.entry.Entry.{Entry}
 use Rattle.vm_local.specs.declared.entry.Entry.TheVariants.{Called}
 use Rattle.vm_local.specs.declared.reply.Reply.{Reply}
 use Rattle.vm_local.specs.declared.reply.Reply.TheVariants.{Done, Refused}
 use Rattle.vm_local.specs.State.{LocalState, opening}
-use Rattle.vm_local.specs.Log.{replay, IsLegal}
+use Rattle.vm_local.specs.Log.{replay, IsLegal, IsCall}
 use Rattle.vm_wire.specs.Wire.{command_bytes}
 use Rattle.vm_wire.specs.declared.command.Command.{Command}
+use Rattle.vm_wire.specs.declared.response.Response.{Response}
+use Rattle.vm_wire.specs.declared.response.Response.TheVariants.{Opened}
 use Rattle.vm_handle.specs.declared.handle.Started.{Started}
 use Rattle.vm_handle.specs.declared.handle.Started.TheVariants.{Answered, Send}
-use Rattle.vm_wire.specs.declared.response.Response.{Response}
-use Rattle.vm_wire.specs.declared.response.Response.TheVariants.{Refused as Denied, Opened, Closed}
-use Rattle.vm_handle.specs.Exchange.{command_of}
+use Rattle.vm_handle.specs.Exchange.{command_of, response_to}
 
 -- The model, the log, the session's id where an open was answered ok, and how many entries there is room for.
 pub record HandleState : Type 0 where
@@ -59,37 +57,23 @@ pub record Keeps (m : Model) (log : List Entry) (is_open has_session : Bool) : T
   pub opened : (local_after m log).opened ≡ is_open
   pub session : has_session ≡ has_opened log
 
--- the calls that are built: opening to wait, and closing
+-- The calls that are built: opening to wait, closing, and those on the device, its formats and its inputs. Their
+-- numbers fit into 32 bits.
 abbrev pub IsBuilt : Call → Type 0
 IsBuilt (OpenHandle nonblock) = nonblock ≡ false
 IsBuilt CloseHandle = Unit {0}
+IsBuilt QueryCap = Unit {0}
+IsBuilt (EnumFmt t i) = (t < 2 ^ 32) × (i < 2 ^ 32)
+IsBuilt (GFmt t) = t < 2 ^ 32
+IsBuilt (TryFmt t f w h) = (t < 2 ^ 32) × (f.0 < 2 ^ 32) × (w < 2 ^ 32) × (h < 2 ^ 32)
+IsBuilt (SFmt t f w h) = (t < 2 ^ 32) × (f.0 < 2 ^ 32) × (w < 2 ^ 32) × (h < 2 ^ 32)
+IsBuilt (EnumInput i) = i < 2 ^ 32
+IsBuilt GInput = Unit {0}
+IsBuilt (SInput i) = i < 2 ^ 32
 IsBuilt call = ⊥
-
-abbrev pub IsOpen : Call → Type 0
-IsOpen (OpenHandle nonblock) = Unit {0}
-IsOpen call = ⊥
-
--- An open may want memory, and a close of a closed handle is refused.
-abbrev pub MayRefuse : LocalState → Call → Errno → Type 0
-MayRefuse s (OpenHandle nonblock) errno = errno ≡ Enomem
-MayRefuse s CloseHandle errno = (s.opened ≡ false) × (errno ≡ Ebadf)
-MayRefuse s call errno = ⊥
 
 abbrev pub with_entry : HandleState → ℕ → Call → Reply → HandleState
 with_entry h line call reply = record h { entries = h.entries ++ Called line call reply ∷ [] }
-
--- the device may answer this to a call that crosses
-abbrev pub MayAnswer : Call → Response → Type 0
-MayAnswer (OpenHandle nonblock) (Opened session) = Unit {0}
-MayAnswer (OpenHandle nonblock) (Denied errno) = errno ≡ errno_number Enomem
-MayAnswer CloseHandle Closed = Unit {0}
-MayAnswer call response = ⊥
-
--- the handle once a call that crossed is answered
-abbrev pub with_response : HandleState → ℕ → Call → Response → HandleState
-with_response h line call (Opened session) = record (with_entry h line call Done) { session = Some session }
-with_response h line call (Denied errno) = with_entry h line call (Refused Enomem)
-with_response h line call Closed = with_entry h line call Done
 
 -- A call is begun: where it crosses its command stands at the front of the bytes, else it is logged as
 -- refused, since the handle isn't open.
@@ -98,3 +82,28 @@ Starts (Some command) h line call out started h' out' =
     (started ≡ Send (length (command_bytes command))) × (h' ≡ h) × (out' ≡ command_bytes command ++ drop (length (command_bytes command)) out)
 Starts None h line call out started h' out' =
     (started ≡ Answered) × (h' ≡ with_entry h line call (Refused Ebadf)) × (out' ≡ out)
+
+-- From this state the call may have this reply, and this is the device's answer then.
+abbrev pub IsAnswer : LocalState → ℕ → Call → Response → Reply → Type 0
+IsAnswer s line call response reply =
+    (next : LocalState) × (session : ℕ) × (IsCall s line call reply next × (response ≡ response_to session s call reply))
+
+-- the device may answer this to a line's call that crosses
+abbrev pub MayAnswer : HandleState → ℕ → Call → Response → Type 0
+MayAnswer h line call response = (reply : Reply) × IsAnswer (local_of h) line call response reply
+
+-- the session's id once a call is answered: an open that is answered ok brings one
+abbrev pub session_from : Option ℕ → Call → Reply → Response → Option ℕ
+session_from session (OpenHandle nonblock) Done (Opened id) = Some id
+session_from session call reply response = session
+
+-- the handle once a call that crossed is answered so
+abbrev pub with_reply : HandleState → ℕ → Call → Reply → Response → HandleState
+with_reply h line call reply response =
+    record (with_entry h line call reply) { session = session_from h.session call reply response }
+
+-- whether a handle is open once a call is answered so
+abbrev pub opened_by : Bool → Call → Reply → Bool
+opened_by is_open (OpenHandle nonblock) Done = true
+opened_by is_open CloseHandle Done = false
+opened_by is_open call reply = is_open

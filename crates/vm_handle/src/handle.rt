@@ -1,8 +1,11 @@
-ghost use Rattle.std.specs.Prelude.{◌≡◌, ◌≢◌, ◌<◌, ◌≤◌, ◌*◌, ◌++◌, None, Some, IfOk, length, drop, IsSome, IsTrue, is_some};
+ghost use Rattle.std.specs.Prelude.{◌≡◌, ◌<◌, ◌≤◌, ◌*◌, IfOk, None, IsSome, length, is_some};
+ghost use Rattle.v4l_const.specs.declared.errno.Errno.TheVariants.{Ebadf};
 ghost use Rattle.vm_local.specs.Log.{IsLegal};
-ghost use Rattle.vm_wire.specs.Wire.{command_bytes};
-ghost use Rattle.vm_handle.specs.Handle.{fresh_handle, asks, local_of, has_opened, IsBuilt, IsOpen, MayRefuse, with_entry, Starts, MayAnswer, with_response};
+ghost use Rattle.vm_local.specs.declared.reply.Reply.{Reply};
+ghost use Rattle.vm_handle.specs.Handle.{fresh_handle, asks, local_of, has_opened, IsBuilt, Starts, IsAnswer, MayAnswer, with_entry, with_reply, session_from};
 
+use crate::answer::reply_of;
+use crate::exchange::{command_of, opened_by};
 use std::alloc::Global;
 use std::marker::Model;
 use v4l_const::{Errno, Model as DeviceModel};
@@ -43,6 +46,23 @@ impl Model for Handle {
     ghost invariant = { λ h. (h.room ≤ vec_capacity h.log) × Keeps h.model h.log.items h.opened (is_some h.session) };
 }
 
+// The session's id once a call is answered: an open that is answered ok brings one.
+fn session_from(
+    session: Option<u32>,
+    call: &Call,
+    reply: &Reply,
+    response: &Response,
+) -> Option<u32>
+    ensures { result ≡ session_from session call.now reply.now response.now }
+{
+    match (call, reply, response) {
+        (Call::OpenHandle { .. }, Reply::Done, Response::Opened { session: opened }) => Some(
+            *opened,
+        ),
+        _ => session,
+    }
+}
+
 impl Handle {
     /// A handle of a device of this model, closed, with room for the log entries of `lines` lines.
     ///
@@ -63,71 +83,35 @@ impl Handle {
         })
     }
 
-    // Logs an open that the device answered.
-    fn log_opened(&mut self, line: u32, call: &Call, session: u32)
+    // Logs a call of a handle that isn't open.
+    fn log_closed(&mut self, line: u32, call: &Call)
         requires built { IsBuilt call.now }
-        requires opens { IsOpen call.now }
+        requires closed { asks self.old call.now ≡ None }
         requires room { length self.old.entries < self.old.room }
-        ensures { self.new ≡ with_response self.old line call.now (Response.Opened session) }
+        ensures { self.new ≡ with_entry self.old line call.now (Reply.Refused Ebadf) }
     {
         self.log.push_reserved(Entry::Called {
             line,
             call: *call,
-            reply: Reply::Done,
-        });
-        self.session = Some(session);
-        self.opened = true;
-    }
-
-    // Logs a close that the device answered.
-    fn log_closed(&mut self, line: u32)
-        requires opened { IsTrue (local_of self.old).opened }
-        requires room { length self.old.entries < self.old.room }
-        ensures { self.new ≡ with_entry self.old line Call.CloseHandle Reply.Done }
-    {
-        self.log.push_reserved(Entry::Called {
-            line,
-            call: Call::CloseHandle,
-            reply: Reply::Done,
-        });
-        self.opened = false;
-    }
-
-    // Logs a call that is refused.
-    fn log_refused(&mut self, line: u32, call: &Call, errno: Errno)
-        requires built { IsBuilt call.now }
-        requires refused { MayRefuse (local_of self.old) call.now errno }
-        requires room { length self.old.entries < self.old.room }
-        ensures { self.new ≡ with_entry self.old line call.now (Reply.Refused errno) }
-    {
-        self.log.push_reserved(Entry::Called {
-            line,
-            call: *call,
-            reply: Reply::Refused(errno),
+            reply: Reply::Refused(Errno::Ebadf),
         });
     }
 
-    /// The command by which a call crosses to the device, if it does: an open always, a close of an open
-    /// handle with its session.
+    /// The command by which a call crosses to the device, if it does: an open always, any other from a handle that
+    /// is open, with its session.
     pub fn command(&self, call: &Call) -> Option<Command>
         requires { IsBuilt call.now }
         ensures { result ≡ asks self.now call.now }
     {
-        match *call {
-            Call::OpenHandle { .. } => Some(Command::OpenSession),
-            _ if self.opened => Some(Command::CloseSession {
-                session: self.session.unwrap_or(0),
-            }),
-            _ => None,
-        }
+        command_of(self.session.unwrap_or(0), self.opened, call)
     }
 
     /// Begins a line's call. Where it crosses, its command is written at the front of `out`, which has
-    /// room for 16 bytes; a close of a handle that isn't open is logged as refused with EBADF.
+    /// room for 304 bytes; a call on a handle that isn't open is logged as refused with EBADF.
     pub fn start(&mut self, line: u32, call: &Call, out: &mut [u8]) -> Started
         requires built { IsBuilt call.now }
         requires room { length self.old.entries < self.old.room }
-        requires out { 16 ≤ length out.old }
+        requires out { 304 ≤ length out.old }
         ensures { Starts (asks self.old call.now) self.old line call.now out.old result self.new out.new }
     {
         match self.command(call) {
@@ -135,26 +119,30 @@ impl Handle {
                 len: encode_command(&command, out) as u32,
             },
             None => {
-                self.log_refused(line, call, Errno::Ebadf);
+                self.log_closed(line, call);
                 Started::Answered
             }
         }
     }
 
-    /// Logs a call that crossed, with the device's answer: an open may be refused with ENOMEM alone, a
-    /// close of an open handle not at all.
+    /// Logs a call that crossed, with the reply that the device's answer tells. The answer is one that the call may
+    /// have from the handle's state. An open that is answered ok brings the session's id.
     pub fn reply(&mut self, line: u32, call: &Call, response: &Response)
         requires built { IsBuilt call.now }
         requires crossed { IsSome (asks self.old call.now) }
-        requires answer { MayAnswer call.now response.now }
+        requires answer { MayAnswer self.old line call.now response.now }
         requires room { length self.old.entries < self.old.room }
-        ensures { self.new ≡ with_response self.old line call.now response.now }
+        ensures { (reply : Reply) → IsAnswer (local_of self.old) line call.now response.now reply → self.new ≡ with_reply self.old line call.now reply response.now }
     {
-        match *response {
-            Response::Opened { session } => self.log_opened(line, call, session),
-            Response::Closed => self.log_closed(line),
-            Response::Refused(_) => self.log_refused(line, call, Errno::Enomem),
-        }
+        let (session, opened) = (self.session, self.opened);
+        let reply = reply_of(call, response).unwrap();
+        self.log.push_reserved(Entry::Called {
+            line,
+            call: *call,
+            reply,
+        });
+        self.session = session_from(session, call, &reply, response);
+        self.opened = opened_by(opened, call, &reply);
     }
 
     /// The log: the answered calls in order, each with its line and reply. It is legal.
