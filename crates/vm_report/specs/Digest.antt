@@ -14,13 +14,13 @@ use Rattle.vm_handle.specs.Exchange.{command_of, response_to}
 use Rattle.vm_handle.specs.Handle.{HandleState}
 use Rattle.vm_report.specs.Logs.{HandleLog, Logs, handle_logs}
 
--- the command's bytes and then the reply's, where the call crosses
-abbrev pub wire_of_call : ℕ → Option Command → Call → Reply → List ℕ
-wire_of_call session None call reply = []
-wire_of_call session (Some command) call reply = command_bytes command ++ response_bytes (response_to session call reply)
+-- the command's bytes and then the reply's, where the call crosses from this state
+abbrev pub wire_of_call : ℕ → LocalState → Option Command → Call → Reply → List ℕ
+wire_of_call session s None call reply = []
+wire_of_call session s (Some command) call reply = command_bytes command ++ response_bytes (response_to session s call reply)
 
 abbrev pub wire_of : ℕ → LocalState → Entry → List ℕ
-wire_of session s (Called line call reply) = wire_of_call session (command_of session s call) call reply
+wire_of session s (Called line call reply) = wire_of_call session s (command_of session s call) call reply
 wire_of session s Finish = []
 wire_of session s Bad = []
 wire_of session s Give = []

@@ -1,5 +1,5 @@
 -- What a run leaves: each handle's log, and the digest of what crossed.
-use Rattle.std.specs.Prelude.{ℕ, ◌≡◌, ◌<◌, List, [], ◌∷◌, Option, Some, None, length, slice_index_or, map}
+use Rattle.std.specs.Prelude.{ℕ, ◌≡◌, ◌<◌, List, [], ◌∷◌, Option, Some, None, slice_index_or, map}
 use Rattle.vm_local.specs.declared.entry.Entry.{Entry}
 use Rattle.vm_handle.specs.Handle.{HandleState}
 

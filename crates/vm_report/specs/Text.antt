@@ -1,23 +1,62 @@
 -- The printed text of logs.
-use Rattle.std.specs.Prelude.{ℕ, ◌≡◌, Bool, true, false, ◌&&◌, List, [], ◌∷◌, ◌++◌, Option, Some, None, codes, IsTrue}
+use Rattle.std.specs.Prelude.{ℕ, ◌≡◌, Bool, true, false, ◌&&◌, nat_lt, List, [], ◌∷◌, ◌++◌, length, Option, Some, None, codes, IsTrue}
 use Rattle.std.specs.Fmt.{decimal}
+use Rattle.std.specs.Int.{to_le_bytes, to_be_bytes, w32, w64}
+use Rattle.std.specs.List.{join_with_byte}
 use Rattle.hex.specs.Hex.{encode_lower}
 use Rattle.v4l_const.specs.Errno.{errno_number, errno_name}
-use Rattle.v4l_const.specs.declared.errno.Errno.{Errno}
+use Rattle.v4l_const.specs.declared.four_cc.FourCc.{FourCc}
+use Rattle.v4l_format.specs.Pattern.{patterns}
 use Rattle.vm_local.specs.declared.call.Call.{Call}
-use Rattle.vm_local.specs.declared.call.Call.TheVariants.{OpenHandle, CloseHandle}
+use Rattle.vm_local.specs.declared.call.Call.TheVariants.{OpenHandle, CloseHandle, QueryCap, EnumFmt, GFmt, TryFmt, SFmt, EnumInput, GInput, SInput, ReqBufs, QueryBuf, UAlloc, QBuf, StreamOn, StreamOff, DqBuf, Mmap, Munmap, Peek, Hash, Poke, Fill, Subscribe, Unsubscribe, DqEvent}
 use Rattle.vm_local.specs.declared.entry.Entry.{Entry}
 use Rattle.vm_local.specs.declared.entry.Entry.TheVariants.{Called, Finish, Bad, Give}
 use Rattle.vm_local.specs.declared.reply.Reply.{Reply}
-use Rattle.vm_local.specs.declared.reply.Reply.TheVariants.{Done, Refused}
+use Rattle.vm_local.specs.declared.reply.Reply.TheVariants.{Done, Refused, Caps, Code, Format, InputName, InputIs, Count, Buf, Pages, Frame, Mapped, Bytes, Digest, Event}
+use Rattle.vm_wire.specs.Records.{input_name}
 use Rattle.vm_script.specs.Grammar.{reads_as}
 use Rattle.vm_report.specs.Logs.{HandleLog, Logs}
 
--- `ok`, or `err`, the errno's number and its name; of the calls that are built no other reply comes
+-- ---- the words of a reply
+
+-- flags or capabilities: 8 lower-case hexadecimal digits
+unfoldable pub flags_text : ℕ → List ℕ
+flags_text flags = encode_lower (to_be_bytes w32 flags)
+
+-- an address: 16 lower-case hexadecimal digits
+unfoldable pub address_text : ℕ → List ℕ
+address_text address = encode_lower (to_be_bytes w64 address)
+
+-- a format's code: its four letters, of which the code is the little-endian number
+unfoldable pub code_text : FourCc → List ℕ
+code_text code = to_le_bytes w32 code.0
+
+-- `ok` and what the reply tells, or `err` with the errno's number and its name
+abbrev pub reply_words : Reply → List (List ℕ)
+reply_words Done = codes "ok" ∷ []
+reply_words (Refused errno) = codes "err" ∷ decimal (errno_number errno) ∷ errno_name errno ∷ []
+reply_words (Caps all device) = codes "ok" ∷ flags_text all ∷ flags_text device ∷ []
+reply_words (Code code) = codes "ok" ∷ code_text code ∷ []
+reply_words (Format f line size) =
+    codes "ok" ∷ code_text f.code ∷ decimal f.width ∷ decimal f.height ∷ decimal line ∷ decimal size ∷ []
+reply_words (InputName input) = codes "ok" ∷ input_name input ∷ []
+reply_words (InputIs input) = codes "ok" ∷ decimal input ∷ []
+reply_words (Count count) = codes "ok" ∷ decimal count ∷ []
+reply_words (Buf len flags) = codes "ok" ∷ decimal len ∷ flags_text flags ∷ []
+reply_words (Pages count) = codes "ok" ∷ decimal count ∷ []
+reply_words (Frame index used sequence timestamp flags) =
+    codes "ok" ∷ decimal index ∷ decimal used ∷ decimal sequence ∷ decimal timestamp ∷ flags_text flags ∷ []
+reply_words (Mapped address len) = codes "ok" ∷ address_text address ∷ decimal len ∷ []
+reply_words (Bytes bytes) = codes "ok" ∷ encode_lower bytes ∷ []
+reply_words (Digest digest) = codes "ok" ∷ encode_lower digest ∷ []
+reply_words (Event kind frame pending sequence) =
+    codes "ok" ∷ decimal kind ∷ decimal frame ∷ decimal pending ∷ decimal sequence ∷ []
+
+-- the words, a space between each two
 abbrev pub reply_text : Reply → List ℕ
-reply_text Done = codes "ok"
-reply_text (Refused errno) = codes "err " ++ decimal (errno_number errno) ++ codes " " ++ errno_name errno
-reply_text reply = []
+reply_text reply = join_with_byte 32 (reply_words reply)
+
+-- ---- the text
 
 abbrev pub call_text : ℕ → List ℕ → Reply → List ℕ
 call_text line echo reply = decimal line ++ codes " " ++ echo ++ codes " = " ++ reply_text reply ++ codes "\n"
@@ -51,11 +90,36 @@ text_of logs words = handles_text logs.handles words ++ codes "region\n" ++ code
 
 -- ---- words that read as the calls
 
--- a reply of the kind that a call has
+-- a reply of the kind that a call has: a refusal, or what the call tells where it isn't refused; a name is that of an
+-- input that there is
 abbrev pub is_kind_of : Call → Reply → Bool
 is_kind_of call (Refused errno) = true
 is_kind_of (OpenHandle nonblock) Done = true
 is_kind_of CloseHandle Done = true
+is_kind_of QueryCap (Caps all device) = true
+is_kind_of (EnumFmt t i) (Code code) = true
+is_kind_of (GFmt t) (Format f line size) = true
+is_kind_of (TryFmt t code w h) (Format f line size) = true
+is_kind_of (SFmt t code w h) (Format f line size) = true
+is_kind_of (EnumInput i) (InputName input) = nat_lt input (length patterns)
+is_kind_of GInput (InputIs input) = true
+is_kind_of (SInput i) (InputIs input) = true
+is_kind_of (ReqBufs t m n) (Count count) = true
+is_kind_of (QueryBuf t i) (Buf len flags) = true
+is_kind_of (UAlloc u len off) (Pages count) = true
+is_kind_of (QBuf t i user used ts) Done = true
+is_kind_of (StreamOn t) Done = true
+is_kind_of (StreamOff t) Done = true
+is_kind_of (DqBuf t) (Frame index used sequence timestamp flags) = true
+is_kind_of (Mmap m t i ro) (Mapped address len) = true
+is_kind_of (Munmap m) Done = true
+is_kind_of (Peek m off len) (Bytes bytes) = true
+is_kind_of (Hash m) (Digest digest) = true
+is_kind_of (Poke m off bytes) Done = true
+is_kind_of (Fill m seed) Done = true
+is_kind_of (Subscribe e) Done = true
+is_kind_of (Unsubscribe e) Done = true
+is_kind_of DqEvent (Event kind frame pending sequence) = true
 is_kind_of call reply = false
 
 -- each call of the log has words that read as it, and a reply of its kind; no words are left
