@@ -1,13 +1,13 @@
 -- Lemmas on the device's sessions against the driver's handles, where a session is opened or closed.
-use Rattle.std.proofs.Common.{◌≡◌, ◌≢◌, ℕ, zero, suc, ◌+◌, ◌<◌, ◌≤◌, Bool, true, false, List, [], ◌∷◌, ◌++◌, Option, Some, None, length, get_or, set, map, refl, sym, ap, ◌∙◌, subst, arith, inl, inr}
-use Rattle.std.proofs.lemmas.Grind.{common_steps}
+use Rattle.std.proofs.Common.{◌≡◌, ◌≢◌, ℕ, zero, suc, ◌+◌, ◌<◌, true, List, [], ◌∷◌, ◌++◌, Option, Some, None, length, get_or, set, map, refl, sym, ap, ◌∙◌, subst, arith, inl, inr}
 use Rattle.std.proofs.lemmas.Bool.{cases_eq}
-use Rattle.std.proofs.lemmas.List.{length-append, length-set, length-map, map-set, get_or-set_same, get_or-set_other, get_or_past}
+use Rattle.std.proofs.lemmas.List.{length-append, length-set, length-map, map-set, get_or-set_same, get_or-set_other}
 use Rattle.std.proofs.Math.ListN.{get_or-map}
 use Rattle.std.proofs.Math.Seq.{map-set_same}
-use Rattle.vm_host.specs.declared.session.Session.{Session}
+use Rattle.vm_local.specs.State.{LocalState}
+use Rattle.vm_session.specs.declared.session.Session.{Session}
 use Rattle.vm_report.specs.Logs.{AreNumbersBelow}
-use Rattle.vmedia.specs.World.{Seat, no_seat, Agrees}
+use Rattle.vmedia.specs.World.{Seat, no_seat, Stands, IsLive, Agrees}
 
 abbrev seat_in : List Seat → ℕ → Seat
 seat_in seats h = get_or seats h no_seat
@@ -88,49 +88,62 @@ more_ids n h ids within vacant are = record {
 abbrev session_of : Seat → Option ℕ
 session_of s = s.session
 
+-- the seat's session is live
+abbrev HasLive : List (Option Session) → Seat → Type 0
+HasLive sessions seat = (id : ℕ) × (seat.session ≡ Some id) × IsLive id seat.local (get_or sessions id None)
+
 -- the next session is opened for a handle that has none
-pub agrees_opened : (sessions : List (Option Session)) (seats : List Seat) (h : ℕ) → h < length seats → (seat_in seats h).session ≡ None
-    → Agrees sessions seats → Agrees (sessions ++ Some (record { id = length sessions }) ∷ []) (set seats h (record { session = Some (length sessions); opened = true }))
-agrees_opened sessions seats h within vacant agrees =
+pub agrees_opened : (sessions : List (Option Session)) (seats : List Seat) (h : ℕ) (t : LocalState) (session : Session) → h < length seats → (seat_in seats h).session ≡ None
+    → Stands (length sessions) t session → Agrees sessions seats → Agrees (sessions ++ Some session ∷ []) (set seats h (record { session = Some (length sessions); local = t }))
+agrees_opened sessions seats h t session within vacant stands agrees =
     let n : ℕ = length sessions in
-    let seat : Seat = record { session = Some n; opened = true } in
+    let seat : Seat = record { session = Some n; local = t } in
     let ids : List (Option ℕ) = map session_of seats in
     let none : id_in ids h ≡ None = get_or-map session_of seats h no_seat ∙ vacant in
     let more : AreNumbersBelow (n + 1) (set ids h (Some n)) = more_ids n h ids (omega (arith, within, length-map seats session_of)) none agrees.ids in
     let P : List (Option ℕ) → Type 0 = λ xs. AreNumbersBelow (n + 1) xs in
     let Q : ℕ → Type 0 = λ m. AreNumbersBelow m (map session_of (set seats h seat)) in
     record {
-      ids = subst Q (sym (length-append sessions (Some (record { id = n }) ∷ []))) (subst P (sym (map-set session_of seats h seat)) more);
+      ids = subst Q (sym (length-append sessions (Some session ∷ []))) (subst P (sym (map-set session_of seats h seat)) more);
       live = λ k is_open. elim (cases_eq k h) [
         | inl same ↦
-            let at : seat_in (set seats h seat) k ≡ seat = ap (seat_in (set seats h seat)) same ∙ get_or-set_same seats h seat no_seat within in
-            (n, ap session_of at, at_end sessions (Some (record { id = n })) None)
+            let at : seat ≡ seat_in (set seats h seat) k = sym (ap (seat_in (set seats h seat)) same ∙ get_or-set_same seats h seat no_seat within) in
+            let S : Seat → Type 0 = HasLive (sessions ++ Some session ∷ []) in
+            let L : Option Session → Type 0 = λ o. IsLive n t o in
+            subst S at (n, refl, subst L (sym (at_end sessions (Some session) None)) stands)
         | inr differs ↦
-            let at : seat_in (set seats h seat) k ≡ seat_in seats k = get_or-set_other seats h k seat no_seat differs in
-            let old = agrees.live k (ap (λ s. s.opened) (sym at) ∙ is_open) in
+            let at : seat_in seats k ≡ seat_in (set seats h seat) k = sym (get_or-set_other seats h k seat no_seat differs) in
+            let S : Seat → Type 0 = HasLive (sessions ++ Some session ∷ []) in
+            let old = agrees.live k (ap (λ s. s.local.opened) at ∙ is_open) in
             let below : old.0 < n = agrees.ids.below k old.0 (get_or-map session_of seats k no_seat ∙ old.1) in
-            (old.0, ap session_of at ∙ old.1, at_front sessions (Some (record { id = n }) ∷ []) old.0 None below ∙ old.2)
+            let L : Option Session → Type 0 = λ o. IsLive old.0 (seat_in seats k).local o in
+            subst S at (old.0, old.1, subst L (sym (at_front sessions (Some session ∷ []) old.0 None below)) old.2)
       ];
     }
 
--- the session of an open handle is closed
-pub agrees_closed : (sessions : List (Option Session)) (seats : List Seat) (h id : ℕ) → h < length seats → (seat_in seats h).session ≡ Some id
-    → Agrees sessions seats → Agrees (set sessions id None) (set seats h (record { session = Some id; opened = false }))
-agrees_closed sessions seats h id within has agrees =
-    let seat : Seat = record { session = Some id; opened = false } in
+-- A call changes the session of a handle, and the handle with it.
+pub agrees_changed : (sessions : List (Option Session)) (seats : List Seat) (h id : ℕ) (slot : Option Session) (t : LocalState) → h < length seats → (seat_in seats h).session ≡ Some id
+    → (t.opened ≡ true → IsLive id t slot) → Agrees sessions seats → Agrees (set sessions id slot) (set seats h (record { session = Some id; local = t }))
+agrees_changed sessions seats h id slot t within has lives agrees =
+    let seat : Seat = record { session = Some id; local = t } in
     let same_ids : map session_of (set seats h seat) ≡ map session_of seats = map-set_same session_of seats h seat no_seat (sym has) in
+    let inside : id < length sessions = agrees.ids.below h id (get_or-map session_of seats h no_seat ∙ has) in
     let P : List (Option ℕ) → Type 0 = λ xs. AreNumbersBelow (length sessions) xs in
     let Q : ℕ → Type 0 = λ m. AreNumbersBelow m (map session_of (set seats h seat)) in
     record {
-      ids = subst Q (sym (length-set sessions id None)) (subst P (sym same_ids) agrees.ids);
+      ids = subst Q (sym (length-set sessions id slot)) (subst P (sym same_ids) agrees.ids);
       live = λ k is_open. elim (cases_eq k h) [
         | inl same ↦
-            let at : seat_in (set seats h seat) k ≡ seat = ap (seat_in (set seats h seat)) same ∙ get_or-set_same seats h seat no_seat within in
-            absurd (let shut : false ≡ true = ap (λ s. s.opened) (sym at) ∙ is_open in cc)
+            let at : seat ≡ seat_in (set seats h seat) k = sym (ap (seat_in (set seats h seat)) same ∙ get_or-set_same seats h seat no_seat within) in
+            let S : Seat → Type 0 = HasLive (set sessions id slot) in
+            let L : Option Session → Type 0 = λ o. IsLive id t o in
+            subst S at (id, refl, subst L (sym (get_or-set_same sessions id slot None inside)) (lives (ap (λ s. s.local.opened) at ∙ is_open)))
         | inr differs ↦
-            let at : seat_in (set seats h seat) k ≡ seat_in seats k = get_or-set_other seats h k seat no_seat differs in
-            let old = agrees.live k (ap (λ s. s.opened) (sym at) ∙ is_open) in
+            let at : seat_in seats k ≡ seat_in (set seats h seat) k = sym (get_or-set_other seats h k seat no_seat differs) in
+            let S : Seat → Type 0 = HasLive (set sessions id slot) in
+            let old = agrees.live k (ap (λ s. s.local.opened) at ∙ is_open) in
             let other : old.0 ≢ id = λ is. differs (agrees.ids.once k h old.0 (get_or-map session_of seats k no_seat ∙ old.1) (get_or-map session_of seats h no_seat ∙ has ∙ ap Some (sym is))) in
-            (old.0, ap session_of at ∙ old.1, get_or-set_other sessions id old.0 None None other ∙ old.2)
+            let L : Option Session → Type 0 = λ o. IsLive old.0 (seat_in seats k).local o in
+            subst S at (old.0, old.1, subst L (sym (get_or-set_other sessions id old.0 slot None other)) old.2)
       ];
     }

@@ -1,11 +1,11 @@
 -- Lemmas on the top call's statuses: each has its cause.
-use Rattle.std.proofs.Common.{◌≡◌, ℕ, ◌≤◌, ◌<◌, ◌⊎◌, List, Option, Some, None, Result, Ok, Err, IsSome, IfSome, length, refl, sym, ap, ◌∙◌, subst, arith, inl, inr}
+use Rattle.std.proofs.Common.{◌≡◌, ℕ, ◌≤◌, ◌⊎◌, List, Option, Some, None, Ok, Err, IsSome, IfSome, length, sym, ◌∙◌, subst, arith, inl, inr}
 use Rattle.vm_io.specs.Bytes.{WasAppended, PartAppended}
 use Rattle.vm_io.specs.Faults.{Rose}
 use Rattle.vm_script.specs.Script.{ScriptLines}
 use Rattle.vm_script.specs.Grammar.{script_of}
 use Rattle.vmedia.specs.Command.{seed_in}
-use Rattle.vmedia.specs.Top.{Tells, IsAnswer, IsWritten, Ends, TellsRun, TellsFault, usage_line, script_limit, WritesText, ForBytes}
+use Rattle.vmedia.specs.Top.{Tells, Ends, TellsRun, TellsFault, usage_line, script_limit, WritesText, ForBytes}
 
 module _ (words : List (List ℕ)) (left held held' : Option (List ℕ)) (kf kf' sf sf' r : ℕ) (ends : Ends words left held held' kf kf' sf sf' r) where
   pub ends_usage : r ≡ 2 → (seed_in words ≡ None) × WasAppended held held' usage_line

@@ -1,26 +1,24 @@
 -- Lemmas on what lines ask, and on the lines of a handle.
-use Rattle.std.proofs.Common.{◌≡◌, ◌≢◌, ℕ, zero, suc, ◌+◌, ◌<◌, ◌≤◌, Bool, true, false, ◌&&◌, List, [], ◌∷◌, ◌++◌, Option, Some, None, length, take, get_or, slice_get, refl, sym, ap, ◌∙◌, subst, arith, eqb, eq-eqb, All, inl, inr, if◌then◌else◌}
+use Rattle.std.proofs.Common.{◌≡◌, ◌≢◌, ℕ, zero, suc, ◌+◌, ◌<◌, ◌≤◌, Bool, true, false, List, [], ◌∷◌, ◌++◌, Option, Some, None, length, take, get_or, slice_get, refl, sym, ap, ◌∙◌, subst, arith, eqb, eq-eqb, All, if◌then◌else◌}
 use Rattle.std.specs.Option.{option_and_then}
-use Rattle.std.specs.List.{list_all}
-use Rattle.std.proofs.lemmas.Grind.{common_steps}
 use Rattle.std.proofs.lemmas.Bool.{ne_eqb}
 use Rattle.std.proofs.lemmas.Option.{slice_get_within, get_or_from_slice_get}
 use Rattle.std.proofs.lemmas.List.{take_more, append_assoc, append-nil, length-append}
 use Rattle.vm_local.specs.declared.call.Call.{Call}
-use Rattle.vm_local.specs.declared.call.Call.TheVariants.{OpenHandle, CloseHandle}
+use Rattle.vm_local.specs.declared.call.Call.TheVariants.{OpenHandle, CloseHandle, QueryCap, EnumFmt, GFmt, TryFmt, SFmt, EnumInput, GInput, SInput}
 use Rattle.vm_local.specs.declared.entry.Entry.{Entry}
 use Rattle.vm_local.specs.declared.entry.Entry.TheVariants.{Called, Finish, Bad, Give}
 use Rattle.vm_local.specs.declared.reply.Reply.{Reply}
 use Rattle.vm_handle.specs.Handle.{IsBuilt}
 use Rattle.vm_script.specs.Script.{ProcessLines}
-use Rattle.vm_script.specs.Lines.{Numbered, numbered, call_on, is_on, lines_of, calls_of}
+use Rattle.vm_script.specs.Lines.{numbered, call_on, is_on, lines_of, calls_of}
 use Rattle.vm_script.specs.declared.line.Line.{Line}
 use Rattle.vm_script.specs.declared.line.LineKind.{LineKind}
 use Rattle.vm_script.specs.declared.line.LineKind.TheVariants.{OnHandle, Raw}
 use Rattle.vmedia.specs.declared.asked.Asked.{Asked}
 use Rattle.vmedia.specs.Asking.{asked_in, asked_by, asked_at}
-use Rattle.vmedia.specs.Orderly.{is_built}
-use Rattle.vmedia.specs.Reading.{IsReadProcess, IsReadLine, IsReadKind, IsReadCall}
+use Rattle.vmedia.specs.Printing.{IsAnswer}
+use Rattle.vm_script.specs.Reading.{IsReadProcess, IsReadLine, IsReadKind, IsReadCall, IsBuilt as IsAsked}
 
 abbrev kind_asked : LineKind → Option Asked → LineKind
 kind_asked d None = d
@@ -44,6 +42,20 @@ asking_line p k a asks = known (slice_get p.lines k) refl asks
     known None at asks = cc
     known (Some l) at asks = let kind = asked_kind l.number l.what a asks in (l, at, kind.0, kind.1)
 
+-- a call that the reader builds is one that a handle takes
+built_call : (call : Call) → IsAsked call → IsBuilt call
+built_call (OpenHandle nonblock) built = built
+built_call CloseHandle built = built
+built_call QueryCap built = built
+built_call (EnumFmt t i) built = built
+built_call (GFmt t) built = built
+built_call (TryFmt t f w h) built = built
+built_call (SFmt t f w h) built = built
+built_call (EnumInput i) built = built
+built_call GInput built = built
+built_call (SInput i) built = built
+built_call call built = absurd built
+
 -- what a line of a script's process asks is a call that is built, on a handle that has a name
 pub asked_is_read : (p : ProcessLines) (k : ℕ) (a : Asked) → IsReadProcess p → asked_at p k ≡ Some a
     → (k < length p.lines) × (a.handle < length p.handles) × IsBuilt a.call
@@ -54,7 +66,7 @@ asked_is_read p k a read asks =
     let P : Line → Type 0 = λ l. IsReadLine p.handles l in
     let Q : LineKind → Type 0 = λ w. IsReadKind p.handles line.0.echo w in
     let call : IsReadCall p.handles line.0.echo a.handle a.call = subst Q line.2 (subst P at (read.each k line.0 within)) in
-    (within, call.within, elim call.built [ inl opens ↦ rw opens refl | inr closes ↦ rw closes tt ])
+    (within, call.within, built_call a.call call.built)
 
 lines_of-append : (h : ℕ) (xs ys : List Line) → lines_of h (xs ++ ys) ≡ lines_of h xs ++ lines_of h ys
 lines_of-append h [] ys = refl
@@ -92,17 +104,13 @@ lines_of-take h (suc n) [] = omega arith
 lines_of-take h (suc n) (l ∷ ls) =
     omega (arith, length-append (numbered l.number (call_on h l.what)) (lines_of h (take n ls)), length-append (numbered l.number (call_on h l.what)) (lines_of h ls), lines_of-take h n ls)
 
-pub both_right : (a b : Bool) → (a && b) ≡ true → b ≡ true
-both_right true b both = both
-both_right false b both = cc
-
 -- a log of calls alone has as many entries as calls
-pub calls_of-built : (es : List Entry) → list_all is_built es ≡ true → length (calls_of es) ≡ length es
-calls_of-built [] built = refl
-calls_of-built (Called line call reply ∷ es) built = ap suc (calls_of-built es (both_right (is_built (Called line call reply)) (list_all is_built es) built))
-calls_of-built (Finish ∷ es) built = cc
-calls_of-built (Bad ∷ es) built = cc
-calls_of-built (Give ∷ es) built = cc
+pub calls_of-answers : (es : List Entry) → All IsAnswer es → length (calls_of es) ≡ length es
+calls_of-answers [] answers = refl
+calls_of-answers (Called line call reply ∷ es) answers = ap suc (calls_of-answers es (λ k d within. answers (suc k) d (omega (arith, within))))
+calls_of-answers (Finish ∷ es) answers = absurd (answers 0 Finish (omega arith))
+calls_of-answers (Bad ∷ es) answers = absurd (answers 0 Bad (omega arith))
+calls_of-answers (Give ∷ es) answers = absurd (answers 0 Give (omega arith))
 
 pub calls_of-push : (es : List Entry) (line : ℕ) (call : Call) (reply : Reply) → calls_of (es ++ Called line call reply ∷ []) ≡ calls_of es ++ record { line = line; call = call } ∷ []
 calls_of-push [] line call reply = refl

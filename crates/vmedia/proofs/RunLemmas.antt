@@ -1,31 +1,23 @@
 -- Lemmas on a run that is done: its logs answer the process's lines, and are those of local handles.
-use Rattle.std.proofs.Common.{◌≡◌, ℕ, zero, suc, ◌+◌, ◌<◌, ◌≤◌, Bool, true, false, not, ◌&&◌, List, [], ◌∷◌, Option, Some, None, Result, Ok, Err, length, take, get_or, map, refl, sym, ap, ◌∙◌, subst, arith, is_some, IsTrue, All, nat_lt, inl, inr, ◌-◌, ◌++◌, if◌then◌else◌, IfOk}
-use Rattle.std.specs.List.{list_all}
-use Rattle.std.proofs.lemmas.Grind.{common_steps}
+use Rattle.std.proofs.Common.{◌≡◌, ℕ, zero, suc, ◌+◌, ◌<◌, ◌≤◌, Bool, true, false, not, ◌&&◌, List, [], ◌∷◌, Option, Result, Ok, Err, length, take, get_or, map, refl, sym, ap, ◌∙◌, subst, arith, All, nat_lt, ◌-◌, ◌++◌, if◌then◌else◌, IfOk}
 use Rattle.std.proofs.lemmas.Bool.Decides.{nat_tests}
 use Rattle.std.proofs.lemmas.List.{take_all, length-append}
 use Rattle.v4l_const.specs.declared.model.Model.TheVariants.{Capture}
-use Rattle.vm_local.specs.declared.call.Call.{Call}
-use Rattle.vm_local.specs.declared.call.Call.TheVariants.{OpenHandle, CloseHandle}
-use Rattle.vm_local.specs.declared.entry.Entry.{Entry}
-use Rattle.vm_local.specs.declared.entry.Entry.TheVariants.{Called, Finish, Bad, Give}
-use Rattle.vm_local.specs.declared.reply.Reply.TheVariants.{Done, Refused}
-use Rattle.vm_handle.specs.Handle.{HandleState, fresh_handle}
-use Rattle.vm_script.specs.Script.{ProcessLines, ScriptLines}
+use Rattle.vm_handle.specs.Handle.{HandleState}
+use Rattle.vm_script.specs.Script.{ProcessLines}
 use Rattle.vm_script.specs.Lines.{lines_of, calls_of, echoes_by_handle}
 use Rattle.vm_script.specs.declared.line.Line.{Line}
 use Rattle.vm_script.specs.declared.line.LineKind.{LineKind}
 use Rattle.vm_script.specs.declared.line.LineKind.TheVariants.{OnHandle, Raw}
-use Rattle.vm_report.specs.Logs.{HandleLog, Logs, AreNumbersBelow, handle_logs, ids_of}
+use Rattle.vm_report.specs.Logs.{Logs, AreNumbersBelow, handle_logs}
 use Rattle.vm_report.specs.Digest.{logs_of_process}
 use Rattle.vm_report.specs.Text.{text_of}
-use Rattle.vmedia.specs.Guest.{GuestState, no_handle, handle_in}
-use Rattle.vmedia.specs.Orderly.{Answers, EachAnswers, IsOrderly, is_built, answered_count}
-use Rattle.vmedia.specs.Printing.{Answers as Printable, AllAnswered, AllRead, ReadsAs, IsAnswer}
-use Rattle.vmedia.specs.Reading.{IsReadProcess, IsReadKind, IsReadLine}
-use Rattle.vmedia.specs.Run.{AnswersEach, IsLocalRun, AreLogsOf, IsRunOf}
-use Rattle.vmedia.specs.World.{WorldState, IsSound, IsUnderWay, Agrees, seats_of, seat_of, is_done}
-use Rattle.vmedia.proofs.LinesLemmas.{both_right}
+use Rattle.vmedia.specs.Guest.{GuestState, awaits, handle_in}
+use Rattle.vmedia.specs.Orderly.{EachAnswers, IsOrderly, answered_count}
+use Rattle.vmedia.specs.Printing.{AllAnswered, AllRead, ReadsAs}
+use Rattle.vm_script.specs.Reading.{IsReadProcess, IsReadKind}
+use Rattle.vmedia.specs.Run.{AnswersEach, IsLocalRun, IsRunOf}
+use Rattle.vmedia.specs.World.{WorldState, IsSound, seats_of, is_done}
 use Rattle.vmedia.proofs.PrinterLemmas.{all_answered_reads}
 use Rattle.vmedia.proofs.WorldLemmas.{quiet_where}
 
@@ -43,33 +35,17 @@ beyond n m is = grind (arith, nat_tests)
 -- where all is done, each handle answers all its lines
 pub each_done : (g : GuestState) → IsOrderly g → is_done g ≡ true → EachAnswers g.process.lines g.process.lines g.handles
 each_done g orderly done =
-    let quiet = done_quiet (nat_lt g.begun (length g.process.lines)) g.awaits done in
+    let quiet = done_quiet (nat_lt g.begun (length g.process.lines)) (awaits g) done in
     let count : answered_count g ≡ g.begun = ap (λ b. if b then g.begun - 1 else g.begun) quiet.1 in
     let all : take (answered_count g) g.process.lines ≡ g.process.lines =
     ap (λ n. take n g.process.lines) count ∙ take_all g.begun g.process.lines (beyond g.begun (length g.process.lines) quiet.0) in
     let P : List Line → Type 0 = λ ls. EachAnswers g.process.lines ls g.handles in
     subst P all orderly.each
 
-built_answer : (e : Entry) → is_built e ≡ true → IsAnswer e
-built_answer (Called line (OpenHandle false) Done) built = (refl, refl)
-built_answer (Called line (OpenHandle false) (Refused errno)) built = (refl, refl)
-built_answer (Called line CloseHandle Done) built = (tt, refl)
-built_answer (Called line CloseHandle (Refused errno)) built = (tt, refl)
-built_answer e built = cc
-
-left_of_both : (a b : Bool) → (a && b) ≡ true → a ≡ true
-left_of_both true b both = refl
-left_of_both false b both = both
-
-all_answers : (es : List Entry) → list_all is_built es ≡ true → All IsAnswer es
-all_answers [] built k d within = absurd (omega (arith, within))
-all_answers (e ∷ es) built zero d within = built_answer e (left_of_both (is_built e) (list_all is_built es) built)
-all_answers (e ∷ es) built (suc k) d within = all_answers es (both_right (is_built e) (list_all is_built es) built) k d (omega (arith, within))
-
 pub all_answered : (g : GuestState) → IsOrderly g → is_done g ≡ true → AllAnswered g.process g.handles
 all_answered g orderly done h within =
     let fits = each_done g orderly done h within in
-    record { model = fits.model; entries = all_answers (handle_in g.handles h).entries fits.built; calls = fits.calls }
+    record { model = fits.model; entries = fits.entries; calls = fits.calls }
 
 reads_kind : (names : List (List ℕ)) (echo : List ℕ) (what : LineKind) → IsReadKind names echo what → ReadsAs names echo what
 reads_kind names echo (OnHandle h call) read = (read.within, read.reads)
@@ -116,7 +92,7 @@ done_run w text sound done printed =
     let p : ProcessLines = w.guest.process in
     let handles : List HandleState = w.guest.handles in
     let each = each_done w.guest sound.orderly done in
-    let quiet = quiet_where w sound (done_quiet (nat_lt w.guest.begun (length p.lines)) w.guest.awaits done).1 in
+    let quiet = quiet_where w sound (done_quiet (nat_lt w.guest.begun (length p.lines)) (awaits w.guest) done).1 in
     let ids = same_ids p.handles handles sound.orderly.named in
     let P : List (Option ℕ) → Type 0 = λ xs. AreNumbersBelow (length w.host.sessions) xs in
     let logs : Logs = logs_of_process Capture 0 p.handles handles in (
@@ -126,7 +102,7 @@ done_run w text sound done printed =
             (let zero_more : k ≡ 0 + k = omega arith in
             let Q : ℕ → Type 0 = λ n. calls_of (handle_in handles k).entries ≡ lines_of n p.lines in subst Q zero_more (each k within).calls));
         runs = local_runs p.handles handles (λ k within. record { legal = (each k within).keeps.legal; session = (each k within).keeps.session });
-        ids = (length w.host.sessions, subst P (sym ids) quiet.1.ids);
+        ids = (length w.host.sessions, subst P (sym ids) quiet.agrees.ids);
         wire = refl;
       },
       (all_answered_reads p handles (all_answered w.guest sound.orderly done) sound.orderly.named (all_read_lines p sound.orderly.read), printed),

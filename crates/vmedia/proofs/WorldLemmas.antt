@@ -1,115 +1,117 @@
 -- Lemmas on the world: each step keeps it sound.
-use Rattle.std.proofs.Common.{◌≡◌, ◌≢◌, ℕ, zero, suc, ◌+◌, ◌-◌, ◌*◌, ◌<◌, ◌≤◌, ◌^◌, ◌⊎◌, Bool, true, false, not, List, [], ◌∷◌, ◌++◌, Option, Some, None, Result, Ok, Err, is_some, slice_get, IfSome, nat_lt, ◌&&◌, length, take, drop, map, get_or, set, Contains, refl, sym, ap, ◌∙◌, subst, arith, inl, inr, if◌then◌else◌, unwrap_or, lit<, lit≤}
-use Rattle.std.specs.List.{list_any}
-use Rattle.std.proofs.lemmas.Grind.{common_steps}
+use Rattle.std.proofs.Common.{◌≡◌, ℕ, zero, suc, ◌+◌, ◌-◌, ◌<◌, ◌≤◌, ◌^◌, ◌⊎◌, Bool, true, false, not, List, [], ◌∷◌, ◌++◌, Option, Some, None, is_some, is_none, slice_get, IfSome, nat_lt, ◌&&◌, length, take, map, get_or, refl, sym, ap, ◌∙◌, subst, arith, inl, inr, if◌then◌else◌}
+use Rattle.std.specs.Option.{option_and_then}
 use Rattle.std.proofs.lemmas.Bool.Decides.{nat_tests}
 use Rattle.std.proofs.lemmas.Bool.{cases_lt}
-use Rattle.std.proofs.lemmas.List.{get_or_past}
-use Rattle.std.proofs.lemmas.Nat.{from_le_bytes-to_le_bytes_4}
-use Rattle.std.proofs.lemmas.List.{length-append, length-set, length-map, map-set}
+use Rattle.std.proofs.lemmas.List.{length-append, get_or_past}
+use Rattle.std.proofs.lemmas.Option.{slice_get_within, get_or_from_slice_get, slice_get-get_or, slice_get_past}
 use Rattle.std.proofs.Math.ListN.{get_or-map}
-use Rattle.std.proofs.Math.Seq.{map-set_same}
 use Rattle.v4l_const.specs.declared.model.Model.TheVariants.{Capture}
-use Rattle.vm_link.specs.Queue.{Queue, posted, taken, finished, collected, parcel_count, owners_of, first_waiting, first_done, first_of}
+use Rattle.vm_link.specs.Queue.{Queue, posted, collected, free_count}
+use Rattle.vm_link.specs.declared.chains.DoneChain.{DoneChain}
 use Rattle.vm_link.specs.declared.link.Turn.{Turn}
 use Rattle.vm_link.specs.declared.link.Turn.TheVariants.{Did, Idle}
 use Rattle.vm_link.specs.declared.parcel.Parcel.{Parcel}
 use Rattle.vm_link.specs.declared.parcel.Finished.{Finished}
-use Rattle.vm_local.specs.declared.call.Call.{Call}
 use Rattle.vm_local.specs.declared.call.Call.TheVariants.{OpenHandle, CloseHandle}
-use Rattle.vm_local.specs.declared.entry.Entry.{Entry}
-use Rattle.vm_wire.specs.Wire.{command_bytes, response_bytes, judged, response_of, response_len, IsCommand, Answers as MayReply, ReadsBack}
+use Rattle.vm_wire.specs.Wire.{IsCommand}
 use Rattle.vm_wire.specs.declared.command.Command.{Command}
-use Rattle.vm_wire.specs.declared.command.Command.TheVariants.{OpenSession, CloseSession}
 use Rattle.vm_wire.specs.declared.response.Response.{Response}
-use Rattle.vm_wire.specs.declared.response.Response.TheVariants.{Refused as Denied, Opened, Closed}
-use Rattle.vm_host.specs.declared.session.Session.{Session}
 use Rattle.vm_host.specs.Sessions.{HostState}
-use Rattle.vm_host.specs.Host.{Answer, answer_to, performed, IsGiven, command_in, replied, Executes, AsksToOpen, with_session, without_session, is_live, fresh_host}
-use Rattle.vm_handle.specs.Handle.{HandleState, local_of, asks, IsBuilt, with_response, MayAnswer, Keeps, has_opened}
-use Rattle.vm_script.specs.Lines.{lines_of, calls_of}
-use Rattle.vmedia.specs.declared.asked.Asked.{Asked}
-use Rattle.vmedia.specs.Asking.{asked_at, asked_by, asked_in}
-use Rattle.vmedia.specs.Guest.{GuestState, no_handle, handle_in, next_asked, awaited, crosses_by, with_begun, with_refused, Begins, Issues, CanPost, parcel_of, Replies, IsReplyTo, IsReply, reply_in, with_reply, handles_with, Collects, IsFresh}
-use Rattle.vmedia.specs.Orderly.{Answers, EachAnswers, IsOrderly}
-use Rattle.vmedia.specs.Reading.{IsReadProcess, IsReadLine, IsReadKind}
-use Rattle.vmedia.specs.World.{WorldState, Seat, no_seat, seat_of, seats_of, Agrees, IsEmpty, IsQuiet, IsPosted, IsToldWith, IsTold, IsUnderWay, IsSound, handles_ahead, enabled_in, left_of, is_done, is_nonempty, can_issue, is_enabled, turn_of, enabled, allows}
-use Rattle.vmedia.proofs.AgreeLemmas.{agrees_opened, agrees_closed}
-use Rattle.vmedia.proofs.LinesLemmas.{asked_is_read, asking_line, calls_of-built}
-use Rattle.vmedia.proofs.ScriptLemmas.{none_before_open}
-use Rattle.vm_wire.proofs.WireLemmas.{response_again}
+use Rattle.vm_host.specs.Host.{Sent, Executes, AsksToOpen, done_as, fresh_host}
+use Rattle.vm_handle.specs.Handle.{HandleState, has_opened}
+use Rattle.vm_script.specs.Lines.{lines_of}
+use Rattle.vm_script.specs.Reading.{IsReadProcess, IsReadKind}
+use Rattle.vm_script.specs.Script.{ProcessLines}
+use Rattle.vm_script.specs.declared.line.Line.{Line}
 use Rattle.vm_script.specs.declared.line.LineKind.{LineKind}
 use Rattle.vm_script.specs.declared.line.LineKind.TheVariants.{OnHandle, Raw}
-use Rattle.vm_script.specs.declared.line.Line.{Line}
-use Rattle.vm_script.specs.Script.{ProcessLines}
-use Rattle.std.specs.Option.{option_and_then}
-use Rattle.std.proofs.lemmas.Option.{slice_get_within, get_or_from_slice_get, slice_get-get_or, slice_get_past}
+use Rattle.vm_script.proofs.ScriptLemmas.{none_before_open}
+use Rattle.vmedia.specs.declared.asked.Asked.{Asked}
+use Rattle.vmedia.specs.Asking.{asked_at, asked_by, asked_in}
+use Rattle.vmedia.specs.Chain.{reply_in}
+use Rattle.vmedia.specs.Guest.{GuestState, no_handle, handle_in, handle_at, awaits, next_asked, awaited, crosses_by, with_begun, with_refused, Begins, Issues, CanPost, Replies, RepliesTo, IsReplyTo, IsReply, IsReplyOf, handles_with, Logs, Answers, Collects, IsHome, IsFresh}
+use Rattle.vmedia.specs.Orderly.{EachAnswers, IsOrderly}
+use Rattle.vmedia.specs.World.{WorldState, Seat, no_seat, seat_of, seats_of, Agrees, IsEmpty, IsQuiet, IsPosted, IsTold, IsUnderWay, IsSound, enabled_in, left_of, is_done, is_nonempty, can_issue, enabled, allows}
+use Rattle.vmedia.proofs.ChainLemmas.{served_posted, brings_posted, read_told, replies_told}
+use Rattle.vmedia.proofs.DoneLemmas.{IsDone, IsServed, done, same_seats}
+use Rattle.vmedia.proofs.LinesLemmas.{asked_is_read, asking_line, calls_of-answers}
 use Rattle.vmedia.proofs.OrderlyLemmas.{each_before_next, each_before_awaited, next_is, awaited_is}
-use Rattle.vmedia.proofs.IssueLemmas.{awaits_reply}
-use Rattle.vmedia.proofs.SeatLemmas.{IsKept, open_where, seat_refused, seat_opened, seat_denied, seat_closed}
+use Rattle.vmedia.proofs.SeatLemmas.{IsKept, seat_refused}
 
 abbrev pub world_of : GuestState → HostState → Queue → WorldState
 world_of guest host queue = record { guest = guest; host = host; queue = queue }
 
 -- ---- nothing is under way where no reply is awaited
 
-pub quiet_where : (w : WorldState) → IsSound w → w.guest.awaits ≡ false → IsQuiet w
-quiet_where w sound quiet =
-    let none : awaited w.guest ≡ None = ap (λ b. if b then asked_at w.guest.process (w.guest.begun - 1) else None) quiet in
+pub quiet_where : (w : WorldState) → IsSound w → awaits w.guest ≡ false → IsQuiet w
+quiet_where w sound home =
+    let none : awaited w.guest ≡ None = ap (λ b. if b then asked_at w.guest.process (w.guest.begun - 1) else None) home in
     let P : Option Asked → Type 0 = λ o. IsUnderWay o w in subst P none sound.under_way
 
 quiet_next : (w : WorldState) (a : Asked) → IsSound w → next_asked w.guest ≡ Some a → IsQuiet w
 quiet_next w a sound asks = quiet_where w sound (next_is w.guest a asks).0
 
-nobody : (xs : List ℕ) (who : ℕ) → xs ≡ [] → Contains xs who → ⊥
-nobody xs who none there = let P : List ℕ → Type 0 = λ ys. Contains ys who in let at = subst P none there in omega (arith, at.1)
+-- an empty queue has all its descriptors free
+all_free : (q : Queue) → IsEmpty q → free_count q ≡ q.size
+all_free q empty = rw (empty.0, empty.1, empty.2) (omega arith)
 
--- a parcel may be posted where a line may be begun
+-- a chain may be posted where a line may be begun
 pub can_post : (w : WorldState) → IsSound w → CanPost (next_asked w.guest) w.queue
 can_post w sound = known (next_asked w.guest) refl
   where
     known : (o : Option Asked) → next_asked w.guest ≡ o → CanPost o w.queue
     known None is = tt
-    known (Some a) is =
-        let quiet = (quiet_next w a sound is).0 in (
-          omega (arith, sound.room, ap length quiet.0, ap length quiet.1, ap length quiet.2),
-          nobody (owners_of w.queue) 0 (rw (quiet.0, quiet.1, quiet.2) refl),
-        )
+    known (Some a) is = let free = all_free w.queue (quiet_next w a sound is).empty in omega (arith, sound.room, free)
 
 -- ---- a line is begun
 
-same_seats : (handles : List HandleState) (h : ℕ) (handle' : HandleState) → seat_of handle' ≡ seat_of (handle_in handles h) → seats_of (set handles h handle') ≡ seats_of handles
-same_seats handles h handle' same = map-set_same seat_of handles h handle' no_handle same
-
-kept_in : (g : GuestState) (a : Asked) (k : ℕ) → IsOrderly g → EachAnswers g.process.lines (take k g.process.lines) g.handles → a.handle < length g.handles → IsKept (handle_in g.handles a.handle)
-kept_in g a k orderly each within = let fits = each a.handle within in (fits.model, fits.keeps)
+kept_in : (g : GuestState) (a : Asked) (k : ℕ) → EachAnswers g.process.lines (take k g.process.lines) g.handles → a.handle < length g.handles → IsKept (handle_in g.handles a.handle)
+kept_in g a k each within = let fits = each a.handle within in record { model = fits.model; keeps = fits.keeps }
 
 begun_sound : (w : WorldState) (a : Asked) (o : Option Command) (g' : GuestState) (q' : Queue) → IsSound w → next_asked w.guest ≡ Some a → crosses_by w.guest a ≡ o
     → Begins o a w.guest w.queue g' q' → IsOrderly g' → IsSound (world_of g' w.host q')
 begun_sound w a (Some c) g' q' sound asks is begins orderly =
     let quiet = quiet_next w a sound asks in
+    let parcel : Parcel = begins.0 in
     let at : awaited (with_begun w.guest) ≡ Some a = ap (asked_at w.guest.process) (omega arith) ∙ (next_is w.guest a asks).1 in
-    let there : IsSound (world_of (with_begun w.guest) w.host (posted w.queue (parcel_of c))) = record {
-      orderly = subst IsOrderly begins.0 orderly;
-      under_way = (let P : Option Asked → Type 0 = λ o. IsUnderWay o (world_of (with_begun w.guest) w.host (posted w.queue (parcel_of c))) in
-          subst P (sym at) (c, is, inl (rw quiet.0.0 refl, quiet.0.1, quiet.0.2, quiet.1, omega (arith, quiet.2))));
+    let posts : IsPosted (world_of (with_begun w.guest) w.host (posted w.queue parcel)) c = record {
+      parcel = parcel;
+      carries = begins.1;
+      waiting = rw quiet.empty.0 refl;
+      out = quiet.empty.1;
+      done = quiet.empty.2;
+      agrees = quiet.agrees;
+      few = omega (arith, quiet.few);
+    } in
+    let P : Option Asked → Type 0 = λ o. IsUnderWay o (world_of (with_begun w.guest) w.host (posted w.queue parcel)) in
+    let there : IsSound (world_of (with_begun w.guest) w.host (posted w.queue parcel)) = record {
+      orderly = subst IsOrderly begins.2 orderly;
+      under_way = subst P (sym at) (c, is, inl posts);
+      model = sound.model;
       opens = sound.opens;
       room = sound.room;
     } in
-    rw (begins.0, begins.1) there
+    rw (begins.2, begins.3) there
 begun_sound w a None g' q' sound asks is begins orderly =
     let quiet = quiet_next w a sound asks in
     let line = asked_is_read w.guest.process w.guest.begun a sound.orderly.read (next_is w.guest a asks).1 in
     let named : a.handle < length w.guest.handles = omega (arith, line.1, sound.orderly.named) in
-    let kept = kept_in w.guest a w.guest.begun sound.orderly (each_before_next w.guest a sound.orderly asks) named in
+    let kept = kept_in w.guest a w.guest.begun (each_before_next w.guest a sound.orderly asks) named in
     let none : awaited (with_refused w.guest a) ≡ None = ap (λ b. if b then asked_at w.guest.process ((w.guest.begun + 1) - 1) else None) (next_is w.guest a asks).0 in
     let seats : seats_of (with_refused w.guest a).handles ≡ seats_of w.guest.handles =
     same_seats w.guest.handles a.handle _ (seat_refused (handle_in w.guest.handles a.handle) a.line a.call line.2 kept is) in
-    let P : Option Asked → Type 0 = λ o. IsUnderWay o (world_of (with_refused w.guest a) w.host w.queue) in
     let Q : List Seat → Type 0 = λ ss. Agrees w.host.sessions ss in
+    let still : IsQuiet (world_of (with_refused w.guest a) w.host w.queue) = record {
+      empty = quiet.empty;
+      agrees = subst Q (sym seats) quiet.agrees;
+      few = omega (arith, quiet.few);
+    } in
+    let P : Option Asked → Type 0 = λ o. IsUnderWay o (world_of (with_refused w.guest a) w.host w.queue) in
     let there : IsSound (world_of (with_refused w.guest a) w.host w.queue) = record {
       orderly = subst IsOrderly begins.0 orderly;
-      under_way = subst P (sym none) (quiet.0, subst Q (sym seats) quiet.1, omega (arith, quiet.2));
+      under_way = subst P (sym none) still;
+      model = sound.model;
       opens = sound.opens;
       room = sound.room;
     } in
@@ -122,116 +124,6 @@ sound_issue w turn g' q' sound issues orderly = known (next_asked w.guest) refl 
     known : (o : Option Asked) → next_asked w.guest ≡ o → Issues o w.guest w.queue turn g' q' → IsSound (world_of g' w.host q')
     known None is issues = rw (issues.1, issues.2) sound
     known (Some a) is issues = begun_sound w a (crosses_by w.guest a) g' q' sound is refl issues.1 orderly
-
--- ---- a command is done
-
--- what stands in a posted parcel is the command
-posted_command : (c : Command) → IsCommand c → judged (command_in (parcel_of c)) 304 ≡ Ok c
-posted_command OpenSession fits = refl
-posted_command (CloseSession session) fits = ap (λ n. Ok (CloseSession n)) (from_le_bytes-to_le_bytes_4 session fits)
-
--- where nothing waits, nothing is done
-idle_execute : (w : WorldState) (turn : Turn) (h' : HostState) (q' : Queue) → w.queue.waiting ≡ [] → Executes (first_waiting w.queue) w.host w.queue turn h' q'
-    → (turn ≡ Idle) × (h' ≡ w.host) × (q' ≡ w.queue)
-idle_execute w turn h' q' none executes = let P : List Parcel → Type 0 = λ ps. Executes (first_of ps) w.host w.queue turn h' q' in subst P none executes
-
--- A command is done for a handle: the reply is one that the call may have, and the sessions agree with the
--- handles once the call has it.
-pub record IsDone (host : HostState) (handles : List HandleState) (h line : ℕ) (call : Call) (c : Command) (answer : Answer) : Type 0 where
-  pub may : MayAnswer call answer.response
-  pub reply : MayReply c answer.response
-  pub agrees : Agrees answer.host.sessions (seats_of (set handles h (with_response (handle_in handles h) line call answer.response)))
-  pub count : length answer.host.sessions ≤ length host.sessions + 1
-  pub opens : answer.host.opens ≡ host.opens
-
-done_open : (host : HostState) (handles : List HandleState) (h line : ℕ) (nonblock memory : Bool) → nonblock ≡ false → h < length handles → IsKept (handle_in handles h)
-    → (handle_in handles h).session ≡ None → Agrees host.sessions (seats_of handles) → length host.sessions < 2 ^ 32
-    → IsDone host handles h line (OpenHandle nonblock) OpenSession (performed memory host OpenSession)
-done_open host handles h line nonblock true waits within kept vacant agrees small =
-    let n : ℕ = length host.sessions in
-    let seat : Seat = record { session = Some n; opened = true } in
-    let none : (get_or (seats_of handles) h no_seat).session ≡ None = ap (λ s. s.session) (get_or-map seat_of handles h no_handle) ∙ vacant in
-    let more = agrees_opened host.sessions (seats_of handles) h (omega (arith, within, length-map handles seat_of)) none agrees in
-    let seats : seats_of (set handles h (with_response (handle_in handles h) line (OpenHandle nonblock) (Opened n))) ≡ set (seats_of handles) h seat =
-    map-set seat_of handles h _ ∙ ap (set (seats_of handles) h) (seat_opened (handle_in handles h) line nonblock n kept) in
-    let P : List Seat → Type 0 = λ ss. Agrees (with_session host).sessions ss in
-    record {
-      may = tt;
-      reply = small;
-      agrees = subst P (sym seats) more;
-      count = omega (arith, length-append host.sessions (Some (record { id = n }) ∷ []));
-      opens = refl;
-    }
-done_open host handles h line nonblock false waits within kept vacant agrees small =
-    let seats : seats_of (set handles h (with_response (handle_in handles h) line (OpenHandle nonblock) (Denied 12))) ≡ seats_of handles =
-    same_seats handles h _ (seat_denied (handle_in handles h) line nonblock 12 waits kept) in
-    let P : List Seat → Type 0 = λ ss. Agrees host.sessions ss in
-    record {
-      may = refl;
-      reply = (lit< tt, lit< tt);
-      agrees = subst P (sym seats) agrees;
-      count = omega arith;
-      opens = refl;
-    }
-
-done_close : (host : HostState) (handles : List HandleState) (h line id : ℕ) (memory : Bool) → h < length handles → IsKept (handle_in handles h)
-    → (local_of (handle_in handles h)).opened ≡ true → (handle_in handles h).session ≡ Some id → get_or host.sessions id None ≡ Some (record { id = id })
-    → Agrees host.sessions (seats_of handles) → IsDone host handles h line CloseHandle (CloseSession id) (performed memory host (CloseSession id))
-done_close host handles h line id memory within kept is_open has lives agrees =
-    let seat : Seat = record { session = Some id; opened = false } in
-    let some : (get_or (seats_of handles) h no_seat).session ≡ Some id = ap (λ s. s.session) (get_or-map seat_of handles h no_handle) ∙ has in
-    let fewer = agrees_closed host.sessions (seats_of handles) h id (omega (arith, within, length-map handles seat_of)) some agrees in
-    let closed : seat_of (with_response (handle_in handles h) line CloseHandle Closed) ≡ seat =
-    seat_closed (handle_in handles h) line kept is_open ∙ ap (λ s. record { session = s; opened = false }) has in
-    let seats : seats_of (set handles h (with_response (handle_in handles h) line CloseHandle Closed)) ≡ set (seats_of handles) h seat =
-    map-set seat_of handles h _ ∙ ap (set (seats_of handles) h) closed in
-    let P : List Seat → Type 0 = λ ss. Agrees (without_session host id).sessions ss in
-    let there : IsDone host handles h line CloseHandle (CloseSession id) (record { response = Closed; host = without_session host id }) = record {
-      may = tt;
-      reply = tt;
-      agrees = subst P (sym seats) fewer;
-      count = omega (arith, length-set host.sessions id None);
-      opens = refl;
-    } in
-    let live : performed memory host (CloseSession id) ≡ record { response = Closed; host = without_session host id } = rw lives refl in
-    subst (IsDone host handles h line CloseHandle (CloseSession id)) (sym live) there
-
-abbrev command_in_some : Option Command → Command
-command_in_some None = OpenSession
-command_in_some (Some c) = c
-
-some_command : (c d : Command) → Some c ≡ Some d → d ≡ c
-some_command c d same = sym (ap command_in_some same)
-
--- the session that an open handle closes by is its own, and live
-open_session : (host : HostState) (handles : List HandleState) (h : ℕ) (c : Command) → Agrees host.sessions (seats_of handles) → asks (handle_in handles h) CloseHandle ≡ Some c
-    → (id : ℕ) × (c ≡ CloseSession id) × ((handle_in handles h).session ≡ Some id) × (get_or host.sessions id None ≡ Some (record { id = id })) × (id < length host.sessions)
-open_session host handles h c agrees crosses =
-    let is_open : (local_of (handle_in handles h)).opened ≡ true = open_where (handle_in handles h) c crosses in
-    let at : get_or (seats_of handles) h no_seat ≡ seat_of (handle_in handles h) = get_or-map seat_of handles h no_handle in
-    let live = agrees.live h (ap (λ s. s.opened) at ∙ is_open) in
-    let has : (handle_in handles h).session ≡ Some live.0 = ap (λ s. s.session) (sym at) ∙ live.1 in
-    let below : live.0 < length host.sessions = agrees.ids.below h live.0 (get_or-map (λ s. s.session) (seats_of handles) h no_seat ∙ live.1) in
-    let by : Some (CloseSession (unwrap_or (handle_in handles h).session 0)) ≡ Some c =
-    ap (λ b. if b then Some (CloseSession (unwrap_or (handle_in handles h).session 0)) else None) (sym is_open) ∙ crosses in
-    (live.0, some_command _ c by ∙ ap (λ o. CloseSession (unwrap_or o 0)) has, has, live.2, below)
-
--- what crosses is done for the handle
-done : (host : HostState) (handles : List HandleState) (h line : ℕ) (call : Call) (c : Command) (memory : Bool) → IsBuilt call → h < length handles → IsKept (handle_in handles h)
-    → asks (handle_in handles h) call ≡ Some c → ((nonblock : Bool) → call ≡ OpenHandle nonblock → (handle_in handles h).session ≡ None)
-    → Agrees host.sessions (seats_of handles) → length host.sessions < 2 ^ 32
-    → IsCommand c × IsDone host handles h line call c (performed memory host c)
-done host handles h line (OpenHandle nonblock) c memory built within kept crosses vacant agrees small =
-    let P : Command → Type 0 = λ d. IsCommand d × IsDone host handles h line (OpenHandle nonblock) d (performed memory host d) in
-    subst P (sym (some_command OpenSession c crosses)) (tt, done_open host handles h line nonblock memory built within kept (vacant nonblock refl) agrees small)
-done host handles h line CloseHandle c memory built within kept crosses vacant agrees small =
-    let own = open_session host handles h c agrees crosses in
-    let P : Command → Type 0 = λ d. IsCommand d × IsDone host handles h line CloseHandle d (performed memory host d) in
-    subst P (sym own.1) (
-      omega (arith, own.4, small),
-      done_close host handles h line own.0 memory within kept (open_where (handle_in handles h) c crosses) own.2 own.3 agrees,
-    )
-done host handles h line call c memory built within kept crosses vacant agrees small = absurd built
 
 -- ---- a handle that is opened has no session before
 
@@ -253,7 +145,7 @@ vacant_before g a k nonblock orderly asks each named opens =
     let what : (get_or g.process.lines k line.0).what ≡ OnHandle a.handle (OpenHandle nonblock) = ap (λ l. l.what) at ∙ line.2 ∙ ap (OnHandle a.handle) opens in
     let none : lines_of a.handle (take k g.process.lines) ≡ [] = none_before_open g.process.lines orderly.read.order k line.0 within a.handle nonblock what in
     let handle : HandleState = handle_in g.handles a.handle in
-    let empty : handle.entries ≡ [] = empty_where handle.entries (sym (calls_of-built handle.entries fits.built) ∙ ap length (fits.calls ∙ none)) in
+    let empty : handle.entries ≡ [] = empty_where handle.entries (sym (calls_of-answers handle.entries fits.entries) ∙ ap length (fits.calls ∙ none)) in
     none_where handle.session (fits.keeps.session ∙ ap has_opened empty)
 
 -- ---- the device does a command
@@ -261,155 +153,144 @@ vacant_before g a k nonblock orderly asks each named opens =
 short_script : (w : WorldState) → IsSound w → length w.host.sessions ≤ w.guest.begun → length w.host.sessions < 2 ^ 32
 short_script w sound few = omega (arith, few, sound.orderly.within, sound.orderly.read.limit)
 
--- a parcel that waits alone is taken and finished
-finished_alone : (q q' : Queue) (c : Command) (r : Response) → q.waiting ≡ parcel_of c ∷ [] → q.out ≡ [] → q.done ≡ []
-    → q' ≡ finished (taken q) (replied (parcel_of c) r) → (q'.waiting ≡ []) × (q'.out ≡ []) × (q'.done ≡ replied (parcel_of c) r ∷ []) × (q'.room ≡ q.room)
-finished_alone q q' c r waits out done queue =
-    let there : finished (taken q) (replied (parcel_of c) r) ≡ record { room = q.room; waiting = []; out = []; done = replied (parcel_of c) r ∷ [] } = rw (waits, out, done) refl in
-    let all : q' ≡ record { room = q.room; waiting = []; out = []; done = replied (parcel_of c) r ∷ [] } = queue ∙ there in
-    (ap (λ x. x.waiting) all, ap (λ x. x.out) all, ap (λ x. x.done) all, ap (λ x. x.room) all)
-
+-- what the chain that waits asks is done for the awaited call
 executed_posted : (w : WorldState) (a : Asked) (c : Command) (turn : Turn) (h' : HostState) (q' : Queue) → IsSound w → awaited w.guest ≡ Some a → crosses_by w.guest a ≡ Some c
-    → IsPosted w c → Executes (first_waiting w.queue) w.host w.queue turn h' q' → IsSound (world_of w.guest h' q')
-executed_posted w a c turn h' q' sound awaits crosses posts executes =
-    let P : List Parcel → Type 0 = λ ps. Executes (first_of ps) w.host w.queue turn h' q' in
-    let doing = subst P posts.0 executes in
-    let r : Response = doing.1.0 in
-    let memory : Bool = doing.1.1.0 in
-    let line = asked_is_read w.guest.process (w.guest.begun - 1) a sound.orderly.read (awaited_is w.guest a awaits).1 in
+    → IsPosted w c → Executes w.queue.waiting w.host w.queue turn h' q' → IsSound (world_of w.guest h' q')
+executed_posted w a c turn h' q' sound awaits_it crosses posts executes =
+    let P : List Parcel → Type 0 = λ ps. Executes ps w.host w.queue turn h' q' in
+    let doing = subst P posts.waiting executes in
+    let head : ℕ = doing.1.0 in
+    let sent : Sent = doing.1.1 in
+    let line = asked_is_read w.guest.process (w.guest.begun - 1) a sound.orderly.read (awaited_is w.guest a awaits_it).1 in
     let named : a.handle < length w.guest.handles = omega (arith, line.1, sound.orderly.named) in
-    let each = each_before_awaited w.guest a sound.orderly awaits in
-    let kept = kept_in w.guest a (w.guest.begun - 1) sound.orderly each named in
-    let small : length w.host.sessions < 2 ^ 32 = short_script w sound (omega (arith, posts.4)) in
-    let work = done w.host w.guest.handles a.handle a.line a.call c memory line.2 named kept crosses
-    (λ nonblock opens. vacant_before w.guest a (w.guest.begun - 1) nonblock sound.orderly (awaited_is w.guest a awaits).1 each named opens) posts.3 small in
-    let answer : performed memory w.host c ≡ record { response = r; host = h' } =
-    ap (answer_to memory w.host) (sym (posted_command c work.0)) ∙ doing.1.1.1 in
-    let finish : IsDone w.host w.guest.handles a.handle a.line a.call c (record { response = r; host = h' }) =
-    subst (IsDone w.host w.guest.handles a.handle a.line a.call c) answer work.1 in
-    let queue = finished_alone w.queue q' c r posts.0 posts.1 posts.2 doing.1.2 in
+    let each = each_before_awaited w.guest a sound.orderly awaits_it in
+    let kept = kept_in w.guest a (w.guest.begun - 1) each named in
+    let small : length w.host.sessions < 2 ^ 32 = short_script w sound (omega (arith, posts.few)) in
+    let work : (memory : Bool) → IsServed w.host w.guest.handles a memory c = λ memory.
+    done w.host w.guest.handles a.handle a.line a.call c memory line.2 named kept crosses
+    (λ nonblock opens. vacant_before w.guest a (w.guest.begun - 1) nonblock sound.orderly (awaited_is w.guest a awaits_it).1 each named opens) posts.agrees sound.model small in
+    let fits : IsCommand c = (work true).0 in
+    let served = served_posted c posts.parcel w.host sent h' fits posts.carries doing.1.3 in
+    let finish : IsDone w.host w.guest.handles a c (record { response = served.response; host = h' }) =
+    subst (IsDone w.host w.guest.handles a c) served.given.1 (work served.given.0).1 in
+    let tells : IsTold (world_of w.guest h' q') a c = record {
+      response = served.response;
+      reply = finish.reply;
+      done = done_as head (length posts.parcel.table) sent;
+      brings = brings_posted c posts.parcel head (length posts.parcel.table) sent served.response fits finish.fits posts.carries served.sent_is;
+      fits = finish.fits;
+      legal = finish.legal;
+      waiting = ap (λ q. q.waiting) doing.1.4;
+      out = ap (λ q. q.out) doing.1.4 ∙ posts.out;
+      finished = ap (λ q. q.done) doing.1.4 ∙ ap (λ ds. ds ++ done_as head (length posts.parcel.table) sent ∷ []) posts.done;
+      agrees = finish.agrees;
+      few = omega (arith, finish.count, posts.few);
+    } in
     let U : Option Asked → Type 0 = λ o. IsUnderWay o (world_of w.guest h' q') in
     record {
       orderly = sound.orderly;
-      under_way = subst U (sym awaits) (
-        c,
-        crosses,
-        inr (
-          r,
-          (
-            queue.0,
-            queue.1,
-            queue.2,
-            finish.may,
-            finish.reply,
-            finish.agrees,
-            omega (arith, finish.count, posts.4),
-          ),
-        ),
-      );
+      under_way = subst U (sym awaits_it) (c, crosses, inr tells);
+      model = finish.model ∙ sound.model;
       opens = omega (arith, finish.opens, sound.opens);
-      room = omega (arith, queue.3, sound.room);
+      room = omega (arith, ap (λ q. q.size) doing.1.4, sound.room);
     }
 
-idle_sound : (w : WorldState) (turn : Turn) (h' : HostState) (q' : Queue) → IsSound w → w.queue.waiting ≡ [] → Executes (first_waiting w.queue) w.host w.queue turn h' q' → IsSound (world_of w.guest h' q')
-idle_sound w turn h' q' sound none executes = let idle = idle_execute w turn h' q' none executes in rw (idle.1, idle.2) sound
+idle_sound : (w : WorldState) (turn : Turn) (h' : HostState) (q' : Queue) → IsSound w → w.queue.waiting ≡ [] → Executes w.queue.waiting w.host w.queue turn h' q' → IsSound (world_of w.guest h' q')
+idle_sound w turn h' q' sound none executes =
+    let P : List Parcel → Type 0 = λ ps. Executes ps w.host w.queue turn h' q' in
+    let idle = subst P none executes in rw (idle.1, idle.2) sound
 
-pub sound_execute : (w : WorldState) (turn : Turn) (h' : HostState) (q' : Queue) → IsSound w → Executes (first_waiting w.queue) w.host w.queue turn h' q' → IsSound (world_of w.guest h' q')
+pub sound_execute : (w : WorldState) (turn : Turn) (h' : HostState) (q' : Queue) → IsSound w → Executes w.queue.waiting w.host w.queue turn h' q' → IsSound (world_of w.guest h' q')
 sound_execute w turn h' q' sound executes = known (awaited w.guest) refl sound.under_way
   where
     known : (o : Option Asked) → awaited w.guest ≡ o → IsUnderWay o w → IsSound (world_of w.guest h' q')
-    known None is quiet = idle_sound w turn h' q' sound quiet.0.0 executes
+    known None is quiet = idle_sound w turn h' q' sound quiet.empty.0 executes
     known (Some a) is under_way = elim under_way.2 [
       | inl posts ↦ executed_posted w a under_way.0 turn h' q' sound is under_way.1 posts executes
-      | inr told ↦ idle_sound w turn h' q' sound told.1.0 executes
+      | inr told ↦ idle_sound w turn h' q' sound told.waiting executes
     ]
 
 -- where an open waits, there is a place for one more session
-pub may_execute : (w : WorldState) → IsSound w → AsksToOpen (first_waiting w.queue) → length w.host.sessions < w.host.opens
+pub may_execute : (w : WorldState) → IsSound w → AsksToOpen w.queue.waiting → length w.host.sessions < w.host.opens
 may_execute w sound opens = known (awaited w.guest) refl sound.under_way
   where
     none_waits : w.queue.waiting ≡ [] → ⊥
-    none_waits none = let P : List Parcel → Type 0 = λ ps. AsksToOpen (first_of ps) in subst P none opens
+    none_waits none = subst AsksToOpen none opens
 
     known : (o : Option Asked) → awaited w.guest ≡ o → IsUnderWay o w → length w.host.sessions < w.host.opens
-    known None is quiet = absurd (none_waits quiet.0.0)
+    known None is quiet = absurd (none_waits quiet.empty.0)
     known (Some a) is under_way = elim under_way.2 [
-      | inl posts ↦ omega (arith, posts.4, sound.orderly.within, sound.opens)
-      | inr told ↦ absurd (none_waits told.1.0)
+      | inl posts ↦ omega (arith, posts.few, sound.orderly.within, sound.opens)
+      | inr told ↦ absurd (none_waits told.waiting)
     ]
 
 -- ---- the driver collects a reply
 
-take-front : {A : Type 0} (xs ys : List A) → take (length xs) (xs ++ ys) ≡ xs
-take-front [] ys = refl
-take-front (x ∷ xs) ys = ap (λ zs. x ∷ zs) (take-front xs ys)
-
--- what comes back reads as the reply
-read_back : (c : Command) (r : Response) → MayReply c r → (reply_in c (replied (parcel_of c) r) ≡ r) × (response_len c (take (replied (parcel_of c) r).used (replied (parcel_of c) r).parcel.reply) ≤ length (response_bytes r))
-read_back c r may =
-    let back : ReadsBack c r (response_bytes r) = response_again c r may in
-    let bytes : take (length (response_bytes r)) (response_bytes r ++ drop (length (response_bytes r)) (parcel_of c).reply) ≡ response_bytes r =
-    take-front (response_bytes r) (drop (length (response_bytes r)) (parcel_of c).reply) in
-    (ap (response_of c) bytes ∙ back.1, rw bytes back.0)
-
-reply_small : (r : Response) → length (response_bytes r) ≤ 304
-reply_small (Denied errno) = omega arith
-reply_small (Opened session) = omega arith
-reply_small Closed = omega arith
-
 -- what came back is a reply that the awaited call may have
-pub may_collect : (w : WorldState) → IsSound w → IsReply (first_done w.queue) w.guest
+pub may_collect : (w : WorldState) → IsSound w → IsReply w.queue.done w.guest
 may_collect w sound = known (awaited w.guest) refl sound.under_way
   where
-    none : w.queue.done ≡ [] → IsReply (first_done w.queue) w.guest
-    none empty = let P : List Finished → Type 0 = λ fs. IsReply (first_of fs) w.guest in subst P (sym empty) tt
+    none : w.queue.done ≡ [] → IsReply w.queue.done w.guest
+    none empty = let P : List DoneChain → Type 0 = λ ds. IsReply ds w.guest in subst P (sym empty) tt
 
-    known : (o : Option Asked) → awaited w.guest ≡ o → IsUnderWay o w → IsReply (first_done w.queue) w.guest
-    known None is quiet = none quiet.0.2
+    known : (o : Option Asked) → awaited w.guest ≡ o → IsUnderWay o w → IsReply w.queue.done w.guest
+    known None is quiet = none quiet.empty.2
     known (Some a) is under_way = elim under_way.2 [
-      | inl posts ↦ none posts.2
+      | inl posts ↦ none posts.done
       | inr told ↦
           let c : Command = under_way.0 in
-          let r : Response = told.0 in
-          let back = read_back c r told.1.4 in
-          let P : List Finished → Type 0 = λ fs. IsReply (first_of fs) w.guest in
-          let Q : Option Asked → Type 0 = λ o. IsReplyTo o w.guest (replied (parcel_of c) r) in
-          let R : Option Command → Type 0 = λ o. Replies o a.call (replied (parcel_of c) r) in
-          let S : Response → Type 0 = λ x. MayAnswer a.call x in
-          subst P (sym told.1.2) (subst Q (sym is) (subst R (sym under_way.1) (reply_small r, back.1, subst S (sym back.0) told.1.3)))
+          let f : Finished = told.done.finished in
+          let replies : Replies c (handle_at w.guest a.handle) a f =
+          replies_told c (handle_at w.guest a.handle) a told.done told.response told.reply told.brings told.fits told.legal in
+          let P : List DoneChain → Type 0 = λ ds. IsReply ds w.guest in
+          let Q : Option Asked → Type 0 = λ o. IsReplyTo o w.guest f in
+          let R : Option Command → Type 0 = λ o. RepliesTo o (handle_at w.guest a.handle) a f in
+          subst P (sym told.finished) (subst Q (sym is) (subst R (sym under_way.1) replies))
     ]
 
-collected_told : (w : WorldState) (a : Asked) (c : Command) (r : Response) (turn : Turn) (g' : GuestState) (q' : Queue) → IsSound w → awaited w.guest ≡ Some a
-    → crosses_by w.guest a ≡ Some c → IsToldWith w a c r → Collects (first_done w.queue) w.guest w.queue turn g' q' → IsOrderly g' → IsSound (world_of g' w.host q')
-collected_told w a c r turn g' q' sound asks crosses told collects orderly =
-    let P : List Finished → Type 0 = λ fs. Collects (first_of fs) w.guest w.queue turn g' q' in
-    let doing = subst P told.2 collects in
-    let f : Finished = replied (parcel_of c) r in
-    let after : GuestState = record w.guest { awaits = false; handles = handles_ahead w.guest a r } in
-    let guest : g' ≡ after = doing.1 ∙ ap (λ o. with_reply o w.guest f) asks
-    ∙ ap (λ o. record w.guest { awaits = false; handles = handles_with o a f w.guest.handles }) crosses
-    ∙ ap (λ x. record w.guest { awaits = false; handles = handles_ahead w.guest a x }) (read_back c r told.4).0 in
+collected_told : (w : WorldState) (a : Asked) (c : Command) (turn : Turn) (g' : GuestState) (q' : Queue) → IsSound w → awaited w.guest ≡ Some a
+    → crosses_by w.guest a ≡ Some c → IsTold w a c → Collects w.queue.done w.guest w.queue turn g' q' → IsOrderly g' → IsSound (world_of g' w.host q')
+collected_told w a c turn g' q' sound asks crosses told collects orderly =
+    let P : List DoneChain → Type 0 = λ ds. Collects ds w.guest w.queue turn g' q' in
+    let doing = subst P told.finished collects in
+    let f : Finished = told.done.finished in
+    let Q : Option Asked → Type 0 = λ o. Answers o w.guest f g' in
+    let answers = subst Q asks doing.1 in
+    let R : Option Command → Type 0 = λ o. Logs o w.guest.handles a f answers.0 in
+    let logs = subst R crosses answers.1 in
+    let reads : reply_in c f ≡ told.response = read_told c told.done told.response told.brings told.fits in
+    let S : Response → Type 0 = λ r. IsReplyOf (handle_at w.guest a.handle) a.line a.call r told.reply in
+    let handles : answers.0 ≡ handles_with w.guest.handles a told.reply told.response =
+    logs told.reply (subst S (sym reads) told.legal) ∙ ap (handles_with w.guest.handles a told.reply) reads in
+    let after : GuestState = record w.guest { chain = Some f.parcel; handles = handles_with w.guest.handles a told.reply told.response } in
+    let guest : g' ≡ after = answers.2 ∙ ap (λ hs. record w.guest { chain = Some f.parcel; handles = hs }) handles in
+    let quiet : IsQuiet (world_of after w.host (collected w.queue)) = record {
+      empty = (told.waiting, told.out, rw told.finished refl);
+      agrees = told.agrees;
+      few = told.few;
+    } in
     let there : IsSound (world_of after w.host (collected w.queue)) = record {
       orderly = subst IsOrderly guest orderly;
-      under_way = ((told.0, told.1, rw told.2 refl), told.5, told.6);
+      under_way = quiet;
+      model = sound.model;
       opens = sound.opens;
       room = sound.room;
     } in
     rw (guest, doing.2) there
 
-nothing_sound : (w : WorldState) (turn : Turn) (g' : GuestState) (q' : Queue) → IsSound w → w.queue.done ≡ [] → Collects (first_done w.queue) w.guest w.queue turn g' q' → IsSound (world_of g' w.host q')
+nothing_sound : (w : WorldState) (turn : Turn) (g' : GuestState) (q' : Queue) → IsSound w → w.queue.done ≡ [] → Collects w.queue.done w.guest w.queue turn g' q' → IsSound (world_of g' w.host q')
 nothing_sound w turn g' q' sound none collects =
-    let P : List Finished → Type 0 = λ fs. Collects (first_of fs) w.guest w.queue turn g' q' in
+    let P : List DoneChain → Type 0 = λ ds. Collects ds w.guest w.queue turn g' q' in
     let idle = subst P none collects in rw (idle.1, idle.2) sound
 
-pub sound_collect : (w : WorldState) (turn : Turn) (g' : GuestState) (q' : Queue) → IsSound w → Collects (first_done w.queue) w.guest w.queue turn g' q' → IsOrderly g' → IsSound (world_of g' w.host q')
+pub sound_collect : (w : WorldState) (turn : Turn) (g' : GuestState) (q' : Queue) → IsSound w → Collects w.queue.done w.guest w.queue turn g' q' → IsOrderly g' → IsSound (world_of g' w.host q')
 sound_collect w turn g' q' sound collects orderly = known (awaited w.guest) refl sound.under_way
   where
     known : (o : Option Asked) → awaited w.guest ≡ o → IsUnderWay o w → IsSound (world_of g' w.host q')
-    known None is quiet = nothing_sound w turn g' q' sound quiet.0.2 collects
+    known None is quiet = nothing_sound w turn g' q' sound quiet.empty.2 collects
     known (Some a) is under_way = elim under_way.2 [
-      | inl posts ↦ nothing_sound w turn g' q' sound posts.2 collects
-      | inr told ↦ collected_told w a under_way.0 told.0 turn g' q' sound is under_way.1 told.1 collects orderly
+      | inl posts ↦ nothing_sound w turn g' q' sound posts.done collects
+      | inr told ↦ collected_told w a under_way.0 turn g' q' sound is under_way.1 told collects orderly
     ]
 
 -- ---- what may be done, and what is left
@@ -451,20 +332,20 @@ may_issue false true quiet more = cc
 
 -- where a line isn't answered, some step may be done
 pub some_enabled : (w : WorldState) → IsSound w → is_done w.guest ≡ false → 0 < length (enabled_in w)
-some_enabled w sound more = known w.guest.awaits refl
+some_enabled w sound more = known (awaits w.guest) refl
   where
     count : length (enabled_in w) ≡ one_if (can_issue w.guest) + one_if (is_nonempty w.queue.waiting) + one_if (is_nonempty w.queue.done)
     count = length-enabled (can_issue w.guest) (is_nonempty w.queue.waiting) (is_nonempty w.queue.done)
 
     under : (a : Asked) → IsUnderWay (Some a) w → 0 < length (enabled_in w)
     under a under_way = elim under_way.2 [
-      | inl posts ↦ let one : one_if (is_nonempty w.queue.waiting) ≡ 1 = ap (λ ps. one_if (is_nonempty ps)) posts.0 in omega (arith, count, one)
-      | inr told ↦ let one : one_if (is_nonempty w.queue.done) ≡ 1 = ap (λ ps. one_if (is_nonempty ps)) told.1.2 in omega (arith, count, one)
+      | inl posts ↦ let one : one_if (is_nonempty w.queue.waiting) ≡ 1 = ap (λ ps. one_if (is_nonempty ps)) posts.waiting in omega (arith, count, one)
+      | inr told ↦ let one : one_if (is_nonempty w.queue.done) ≡ 1 = ap (λ ps. one_if (is_nonempty ps)) told.finished in omega (arith, count, one)
     ]
 
-    known : (b : Bool) → w.guest.awaits ≡ b → 0 < length (enabled_in w)
+    known : (b : Bool) → awaits w.guest ≡ b → 0 < length (enabled_in w)
     known false is =
-        let one : one_if (can_issue w.guest) ≡ 1 = ap one_if (may_issue (nat_lt w.guest.begun (length w.guest.process.lines)) w.guest.awaits is more) in
+        let one : one_if (can_issue w.guest) ≡ 1 = ap one_if (may_issue (nat_lt w.guest.begun (length w.guest.process.lines)) (awaits w.guest) is more) in
         omega (arith, count, one)
     known true is =
         let before : 0 < w.guest.begun = sound.orderly.counted is in
@@ -477,7 +358,7 @@ some_enabled w sound more = known w.guest.awaits refl
 
 begins_falls : (w : WorldState) (a : Asked) (o : Option Command) (g' : GuestState) (q' : Queue) → w.guest.begun < length w.guest.process.lines
     → Begins o a w.guest w.queue g' q' → left_of (world_of g' w.host q') < left_of w
-begins_falls w a (Some c) g' q' within begins = rw (begins.0, begins.1) (omega (arith, within, length-append w.queue.waiting (parcel_of c ∷ [])))
+begins_falls w a (Some c) g' q' within begins = rw (begins.2, begins.3) (omega (arith, within, length-append w.queue.waiting (begins.0 ∷ [])))
 begins_falls w a None g' q' within begins = rw (begins.0, begins.1) (omega (arith, within))
 
 pub issue_falls : (w : WorldState) (turn : Turn) (g' : GuestState) (q' : Queue) → IsSound w → Issues (next_asked w.guest) w.guest w.queue turn g' q' → turn ≡ Did
@@ -489,34 +370,33 @@ issue_falls w turn g' q' sound issues did = known (next_asked w.guest) refl issu
     known (Some a) is issues =
         begins_falls w a (crosses_by w.guest a) g' q' (asked_is_read w.guest.process w.guest.begun a sound.orderly.read (next_is w.guest a is).1).0 issues.1
 
-pub execute_falls : (w : WorldState) (turn : Turn) (h' : HostState) (q' : Queue) → IsSound w → Executes (first_waiting w.queue) w.host w.queue turn h' q' → turn ≡ Did
+pub execute_falls : (w : WorldState) (turn : Turn) (h' : HostState) (q' : Queue) → IsSound w → Executes w.queue.waiting w.host w.queue turn h' q' → turn ≡ Did
     → left_of (world_of w.guest h' q') < left_of w
 execute_falls w turn h' q' sound executes did = known w.queue.waiting refl executes
   where
-    known : (ps : List Parcel) → w.queue.waiting ≡ ps → Executes (first_of ps) w.host w.queue turn h' q' → left_of (world_of w.guest h' q') < left_of w
+    known : (ps : List Parcel) → w.queue.waiting ≡ ps → Executes ps w.host w.queue turn h' q' → left_of (world_of w.guest h' q') < left_of w
     known [] is executes = absurd (let no : Idle ≡ Did = sym executes.0 ∙ did in cc)
     known (p ∷ ps) is executes =
-        let waits : length q'.waiting + 1 ≡ length w.queue.waiting = ap (λ q. length q.waiting + 1) executes.1.2 ∙ rw is (omega arith) in
-        let ends : length q'.done ≡ length w.queue.done + 1 = ap (λ q. length q.done) executes.1.2 ∙ length-append w.queue.done (replied p executes.1.0 ∷ []) in
+        let waits : length q'.waiting + 1 ≡ length w.queue.waiting = ap (λ q. length q.waiting + 1) executes.1.4 ∙ rw is (omega arith) in
+        let ends : length q'.done ≡ length w.queue.done + 1 =
+        ap (λ q. length q.done) executes.1.4 ∙ length-append w.queue.done (done_as executes.1.0 (length p.table) executes.1.1 ∷ []) in
         omega (arith, waits, ends)
 
-pub collect_falls : (w : WorldState) (turn : Turn) (g' : GuestState) (q' : Queue) → IsSound w → Collects (first_done w.queue) w.guest w.queue turn g' q' → turn ≡ Did
+same_lines : (o : Option Asked) (g g' : GuestState) (f : Finished) → Answers o g f g' → (length g'.process.lines ≡ length g.process.lines) × (g'.begun ≡ g.begun)
+same_lines None g g' f answers = absurd answers
+same_lines (Some a) g g' f answers = (ap (λ x. length x.process.lines) answers.2, ap (λ x. x.begun) answers.2)
+
+pub collect_falls : (w : WorldState) (turn : Turn) (g' : GuestState) (q' : Queue) → IsSound w → Collects w.queue.done w.guest w.queue turn g' q' → turn ≡ Did
     → left_of (world_of g' w.host q') < left_of w
 collect_falls w turn g' q' sound collects did = known w.queue.done refl collects
   where
-    same_lines : (o : Option Asked) (f : Finished) → (length (with_reply o w.guest f).process.lines ≡ length w.guest.process.lines) × ((with_reply o w.guest f).begun ≡ w.guest.begun)
-    same_lines None f = (refl, refl)
-    same_lines (Some a) f = (refl, refl)
-
-    known : (fs : List Finished) → w.queue.done ≡ fs → Collects (first_of fs) w.guest w.queue turn g' q' → left_of (world_of g' w.host q') < left_of w
+    known : (ds : List DoneChain) → w.queue.done ≡ ds → Collects ds w.guest w.queue turn g' q' → left_of (world_of g' w.host q') < left_of w
     known [] is collects = absurd (let no : Idle ≡ Did = sym collects.0 ∙ did in cc)
-    known (f ∷ fs) is collects =
-        let same = same_lines (awaited w.guest) f in
-        let lines : length g'.process.lines ≡ length w.guest.process.lines = ap (λ g. length g.process.lines) collects.1 ∙ same.0 in
-        let begun : g'.begun ≡ w.guest.begun = ap (λ g. g.begun) collects.1 ∙ same.1 in
+    known (d ∷ ds) is collects =
+        let same = same_lines (awaited w.guest) w.guest g' d.finished collects.1 in
         let waits : length q'.waiting ≡ length w.queue.waiting = ap (λ q. length q.waiting) collects.2 in
         let ends : length q'.done + 1 ≡ length w.queue.done = ap (λ q. length q.done + 1) collects.2 ∙ rw is (omega arith) in
-        omega (arith, lines, begun, waits, ends)
+        omega (arith, same.0, same.1, waits, ends)
 
 -- ---- which turn a step takes
 
@@ -536,7 +416,7 @@ beyond_where n m is = grind (arith, nat_tests)
 pub issue_turn : (w : WorldState) (turn : Turn) (g' : GuestState) (q' : Queue) → IsSound w → Issues (next_asked w.guest) w.guest w.queue turn g' q' → turn ≡ (if can_issue w.guest then Did else Idle)
 issue_turn w turn g' q' sound issues =
     let g : GuestState = w.guest in
-    elim (turn_where (nat_lt g.begun (length g.process.lines)) g.awaits (asked_at g.process g.begun) (next_asked g)
+    elim (turn_where (nat_lt g.begun (length g.process.lines)) (awaits g) (asked_at g.process g.begun) (next_asked g)
     (λ quiet more. asked_there g.process g.begun sound.orderly.read (within_where g.begun (length g.process.lines) more))
     (λ quiet past. ap (option_and_then asked_by) (slice_get_past g.process.lines g.begun (beyond_where g.begun (length g.process.lines) past)))
     refl) [
@@ -592,17 +472,27 @@ fresh_agrees p g fresh =
         there = λ id below. absurd (omega (arith, below));
         once = λ h k id at_h at_k. absurd (no_id h id at_h);
       };
-      live = λ h is_open. absurd (let shut : false ≡ true = ap (λ s. s.opened) (sym (fresh_seat p g h fresh)) ∙ is_open in cc);
+      live = λ h is_open. absurd (let shut : false ≡ true = ap (λ s. s.local.opened) (sym (fresh_seat p g h fresh)) ∙ is_open in cc);
     }
 
-pub sound_fresh : (p : ProcessLines) (g : GuestState) (h : HostState) (q : Queue) → IsFresh p g → IsOrderly g → h ≡ fresh_host (length p.lines) → 0 < q.room → IsEmpty q → IsSound (world_of g h q)
+home_awaits : (home : Option Parcel) → IsHome home → is_none home ≡ false
+home_awaits None is = absurd is
+home_awaits (Some parcel) is = refl
+
+pub sound_fresh : (p : ProcessLines) (g : GuestState) (h : HostState) (q : Queue) → IsFresh p g → IsOrderly g → h ≡ fresh_host Capture (length p.lines) → 64 ≤ q.size → IsEmpty q → IsSound (world_of g h q)
 sound_fresh p g h q fresh orderly host room empty =
-    let none : awaited g ≡ None = ap (λ b. if b then asked_at g.process (g.begun - 1) else None) fresh.awaits in
-    let P : Option Asked → Type 0 = λ o. IsUnderWay o (world_of g (fresh_host (length p.lines)) q) in
-    let there : IsSound (world_of g (fresh_host (length p.lines)) q) = record {
+    let none : awaited g ≡ None = ap (λ b. if b then asked_at g.process (g.begun - 1) else None) (home_awaits g.chain fresh.chain) in
+    let P : Option Asked → Type 0 = λ o. IsUnderWay o (world_of g (fresh_host Capture (length p.lines)) q) in
+    let quiet : IsQuiet (world_of g (fresh_host Capture (length p.lines)) q) = record {
+      empty = empty;
+      agrees = fresh_agrees p g fresh;
+      few = omega arith;
+    } in
+    let there : IsSound (world_of g (fresh_host Capture (length p.lines)) q) = record {
       orderly = orderly;
-      under_way = subst P (sym none) (empty, fresh_agrees p g fresh, omega arith);
+      under_way = subst P (sym none) quiet;
+      model = refl;
       opens = omega (arith, ap (λ x. length x.lines) fresh.process);
-      room = room;
+      room = omega (arith, room);
     } in
     rw host there

@@ -1,10 +1,10 @@
 pub mod Asking
+pub mod Chain
 pub mod Command
 pub mod Echoes
 pub mod Guest
 pub mod Orderly
 pub mod Printing
-pub mod Reading
 pub mod Run
 pub mod Schedule
 pub mod Top

@@ -1,17 +1,16 @@
 -- What the logs of a process's handles hold once each of its lines is answered.
-use Rattle.std.specs.Prelude.{ℕ, ◌≡◌, ◌<◌, Bool, true, false, List, [], length, slice_index_or, IsTrue, All, unwrap_or}
+use Rattle.std.specs.Prelude.{ℕ, ◌≡◌, ◌<◌, Bool, List, [], length, slice_index_or, IsTrue, All, unwrap_or}
 use Rattle.v4l_const.specs.declared.model.Model.TheVariants.{Capture}
-use Rattle.vm_local.specs.declared.call.Call.TheVariants.{OpenHandle, CloseHandle}
 use Rattle.vm_local.specs.declared.entry.Entry.{Entry}
 use Rattle.vm_local.specs.declared.entry.Entry.TheVariants.{Called}
-use Rattle.vm_local.specs.declared.reply.Reply.TheVariants.{Done}
 use Rattle.vm_local.specs.State.{opening}
 use Rattle.vm_script.specs.Grammar.{reads_as}
 use Rattle.vm_script.specs.Lines.{Numbered, lines_of, calls_of}
 use Rattle.vm_script.specs.Script.{ProcessLines}
 use Rattle.vm_script.specs.declared.line.LineKind.{LineKind}
 use Rattle.vm_script.specs.declared.line.LineKind.TheVariants.{OnHandle, Raw}
-use Rattle.vm_handle.specs.Handle.{HandleState, IsBuilt, fresh_handle}
+use Rattle.vm_handle.specs.Handle.{HandleState, IsBuilt, fresh_handle, opened_by}
+use Rattle.vm_handle.specs.Range.{IsOffered}
 use Rattle.vm_report.specs.Digest.{wires_from}
 use Rattle.vm_report.specs.Logs.{HandleLog}
 use Rattle.vm_report.specs.Text.{is_kind_of}
@@ -57,7 +56,11 @@ abbrev pub crossed : HandleState → List ℕ
 crossed h = wires_from (unwrap_or h.session 0) (opening Capture) h.entries
 
 -- whether a handle is open after an entry, where it was open or not before
-abbrev pub opened_by : Bool → Entry → Bool
-opened_by was (Called line (OpenHandle nonblock) Done) = true
-opened_by was (Called line CloseHandle Done) = false
-opened_by was e = was
+abbrev pub opened_after : Bool → Entry → Bool
+opened_after was (Called line call reply) = opened_by was call reply
+opened_after was e = was
+
+-- a format in an entry's reply is one that the device offers
+abbrev pub TellsOffered : Entry → Type 0
+TellsOffered (Called line call reply) = IsOffered reply
+TellsOffered e = Unit {0}

@@ -1,5 +1,5 @@
 -- What the top call answers and writes.
-use Rattle.std.specs.Prelude.{ℕ, ◌≡◌, ◌<◌, ◌≤◌, ◌⊎◌, ◌++◌, List, [], length, map, codes, Option, Some, None, Result, Ok, Err, IsSome, IfSome}
+use Rattle.std.specs.Prelude.{ℕ, ◌≡◌, ◌<◌, ◌≤◌, ◌⊎◌, ◌++◌, List, length, codes, Option, None, Ok, Err, IsSome, IfSome}
 use Rattle.std.specs.Fmt.{decimal}
 use Rattle.vm_io.specs.Bytes.{WasAppended, PartAppended}
 use Rattle.vm_io.specs.Faults.{Rose}

@@ -1,26 +1,32 @@
 //! The driver and its process: one line after another is begun, and answered.
 
-ghost use Rattle.std.specs.Prelude.{◌≡◌, ◌<◌, ◌^◌, ℕ, IfOk, Contains, length, slice_index_or, true, if◌then◌else◌};
-ghost use Rattle.vm_link.specs.Queue.{first_done, parcel_count, owners_of, posted};
+ghost use Rattle.std.specs.Prelude.{◌≡◌, ◌<◌, ◌≤◌, ◌^◌, ℕ, IfOk, length, slice_index_or, true};
+ghost use Rattle.vm_link.specs.Queue.{Queue, queue_at, with_queue, free_count};
+ghost use Rattle.vm_link.specs.declared.link.QueueId.TheVariants.{Command as Commands};
 ghost use Rattle.vm_handle.specs.Handle.{asks, IsBuilt};
 ghost use Rattle.vm_script.specs.Lines.{is_on, lines_of};
-ghost use Rattle.vmedia.specs.Reading.{IsReadProcess};
-ghost use Rattle.vmedia.specs.Guest.{no_handle, handle_in, empty_parcel, HasRoom, Starts, Replies, handles_with, next_asked, awaited, IsFresh, IsFreshHandle, Issues, CanPost, IsReply, Collects};
+ghost use Rattle.vm_script.specs.Reading.{IsReadProcess};
+ghost use Rattle.vmedia.specs.Chain.{IsChain};
+ghost use Rattle.vmedia.specs.Guest.{no_handle, handle_in, HasRoom, Starts, Posts, RepliesTo, Logs, next_asked, awaited, IsFresh, IsFreshHandle, Issues, CanPost, IsReply, Collects};
 ghost use Rattle.vmedia.specs.Orderly.{IsOrderly};
 ghost use Rattle.vmedia.specs.World.{can_issue, is_done};
 
 use crate::asked::{Asked, asked_at};
+use crate::chain::{make_chain, put_command, reply_in};
 use std::alloc::Global;
 use std::marker::Model;
 use v4l_const::Model as DeviceModel;
 use vm_handle::{Handle, Started};
-use vm_link::{Finished, Link, MESSAGE_LEN, Parcel, Turn};
+use vm_link::{Finished, Link, Parcel, QueueId, Turn};
 use vm_mem::Memory;
 use vm_script::{Line, LineKind, Process};
 use vm_wire::decode_response;
 
-/// The process's number, which its parcels carry.
+/// The process's number, which its chain carries.
 const PROCESS: u16 = 0;
+
+/// How many bytes a command has at most.
+const LONGEST_COMMAND: usize = 304;
 
 /// One process's handles, and how far its lines have come.
 #[derive(Drop)]
@@ -29,8 +35,8 @@ pub struct Guest {
     handles: Vec<Handle>,
     // How many lines were begun.
     begun: usize,
-    // Whether the last of these awaits its reply.
-    awaits: bool,
+    // The process's chain, unless the last of these lines awaits its reply.
+    chain: Option<Parcel>,
 }
 
 impl Model for Guest {
@@ -40,9 +46,9 @@ impl Model for Guest {
 
     ghost use Rattle.vmedia.specs.Orderly.{IsOrderly};
 
-    ghost view = { λ g. record { process = g.process; handles = g.handles.items; begun = g.begun; awaits = g.awaits } };
+    ghost view = { λ g. record { process = g.process; handles = g.handles.items; begun = g.begun; chain = g.chain } };
 
-    ghost invariant = { λ g. IsOrderly (record { process = g.process; handles = g.handles.items; begun = g.begun; awaits = g.awaits }) };
+    ghost invariant = { λ g. IsOrderly (record { process = g.process; handles = g.handles.items; begun = g.begun; chain = g.chain }) };
 }
 
 // Whether a line is on a handle.
@@ -85,44 +91,36 @@ fn make_handles(alloc: Global, process: &Process) -> Result<Vec<Handle>, Memory>
     Ok(handles)
 }
 
-// A parcel of the process, with nothing in it.
-fn empty_parcel() -> Parcel
-    ensures { result ≡ empty_parcel }
-{
-    Parcel {
-        who: PROCESS,
-        command: [0; MESSAGE_LEN],
-        len: 0,
-        reply: [0; MESSAGE_LEN],
-    }
-}
-
-// Begins a call. Where it crosses, its command stands in the parcel.
-fn start(handles: &mut Vec<Handle>, asked: &Asked, parcel: &mut Parcel) -> bool
+// Begins a call. Where it crosses, its command stands in the chain.
+fn start(handles: &mut Vec<Handle>, asked: &Asked, chain: &mut Parcel) -> bool
     requires within { asked.now.handle < length handles.old.items }
     requires built { IsBuilt asked.now.call }
     requires room { HasRoom (handle_in handles.old.items asked.now.handle) }
-    requires empty { parcel.old ≡ empty_parcel }
-    ensures { Starts (asks (handle_in handles.old.items asked.now.handle) asked.now.call) asked.now handles.old.items result handles.new.items parcel.new }
+    requires chain { IsChain 0 chain.old }
+    ensures { Starts (asks (handle_in handles.old.items asked.now.handle) asked.now.call) asked.now handles.old.items chain.old result handles.new.items chain.new }
 {
+    let mut command = [0; LONGEST_COMMAND];
     let handle = &mut handles[asked.handle as usize];
-    match handle.start(asked.line, &asked.call, &mut parcel.command) {
+    match handle.start(asked.line, &asked.call, &mut command) {
         Started::Answered => false,
         Started::Send { len } => {
-            parcel.len = len as u16;
+            put_command(chain, &command[..len as usize]);
             true
         }
     }
 }
 
-// Posts the parcel of a call that crosses.
-fn post_crossing<L: Link>(link: &mut L, parcel: Parcel, crosses: bool)
-    requires room { crosses ≡ true → parcel_count (L.queue link.old) < (L.queue link.old).room }
-    requires own { crosses ≡ true → ¬ Contains (owners_of (L.queue link.old)) parcel.who }
-    ensures { L.queue link.new ≡ (if crosses then posted (L.queue link.old) parcel else L.queue link.old) }
+// Posts the chain of a call that crosses, and keeps that of any other.
+fn post_crossing<L: Link>(link: &mut L, chain: Parcel, crosses: bool) -> Option<Parcel>
+    requires chain { IsChain 0 chain }
+    requires free { crosses ≡ true → 2 ≤ free_count (queue_at Commands (L.queues link.old)) }
+    ensures { Posts crosses chain (queue_at Commands (L.queues link.old)) result (queue_at Commands (L.queues link.new)) }
 {
     if crosses {
-        link.post(parcel);
+        link.post(QueueId::Command, chain);
+        None
+    } else {
+        Some(chain)
     }
 }
 
@@ -131,12 +129,12 @@ fn answer(handles: &mut Vec<Handle>, asked: &Asked, done: &Finished)
     requires within { asked.now.handle < length handles.old.items }
     requires built { IsBuilt asked.now.call }
     requires room { HasRoom (handle_in handles.old.items asked.now.handle) }
-    requires reply { Replies (asks (handle_in handles.old.items asked.now.handle) asked.now.call) asked.now.call done.now }
-    ensures { handles.new.items ≡ handles_with (asks (handle_in handles.old.items asked.now.handle) asked.now.call) asked.now done.now handles.old.items }
+    requires reply { RepliesTo (asks (handle_in handles.old.items asked.now.handle) asked.now.call) (handle_in handles.old.items asked.now.handle) asked.now done.now }
+    ensures { Logs (asks (handle_in handles.old.items asked.now.handle) asked.now.call) handles.old.items asked.now done.now handles.new.items }
 {
     let handle = &mut handles[asked.handle as usize];
     let command = handle.command(&asked.call).unwrap();
-    let response = decode_response(&command, &done.parcel.reply[..done.used as usize]).unwrap();
+    let response = decode_response(&command, reply_in(done)).unwrap();
     handle.reply(asked.line, &asked.call, &response);
 }
 
@@ -144,18 +142,19 @@ impl Guest {
     /// The process before its first line.
     ///
     /// # Errors
-    /// `Memory` where there is none for the handles' logs.
+    /// `Memory` where there is none for the handles' logs, or for the chain.
     pub fn new(alloc: Global, process: Process) -> Result<Guest, Memory>
         requires { IsReadProcess process }
         ensures fresh { IfOk result (λ g. IsFresh process g) }
         ensures orderly { IfOk result (λ g. IsOrderly g) }
     {
         let handles = make_handles(alloc, &process)?;
+        let chain = make_chain(alloc, PROCESS)?;
         Ok(Guest {
             process,
             handles,
             begun: 0,
-            awaits: false,
+            chain: Some(chain),
         })
     }
 
@@ -163,48 +162,48 @@ impl Guest {
     pub fn is_done(&self) -> bool
         ensures { result ≡ is_done self.now }
     {
-        self.begun >= self.process.lines.len() && !self.awaits
+        self.begun >= self.process.lines.len() && self.chain.is_some()
     }
 
     /// Whether a line may be begun.
     pub fn can_issue(&self) -> bool
         ensures { result ≡ can_issue self.now }
     {
-        self.begun < self.process.lines.len() && !self.awaits
+        self.begun < self.process.lines.len() && self.chain.is_some()
     }
 
     /// Begins the next line. `Idle` exactly where there is none, or a reply is awaited.
     pub fn issue<L: Link>(&mut self, link: &mut L) -> Turn
-        requires { CanPost (next_asked self.old) (L.queue link.old) }
-        ensures issues { Issues (next_asked self.old) self.old (L.queue link.old) result self.new (L.queue link.new) }
+        requires { CanPost (next_asked self.old) (queue_at Commands (L.queues link.old)) }
+        ensures issues { Issues (next_asked self.old) self.old (queue_at Commands (L.queues link.old)) result self.new (queue_at Commands (L.queues link.new)) }
         ensures orderly { IsOrderly self.new }
     {
-        if self.awaits {
+        if self.chain.is_none() {
             return Turn::Idle;
         }
         let Some(asked) = asked_at(&self.process, self.begun) else {
             return Turn::Idle;
         };
-        let mut parcel = empty_parcel();
-        self.awaits = start(&mut self.handles, &asked, &mut parcel);
-        post_crossing(link, parcel, self.awaits);
+        let mut chain = self.chain.take().unwrap();
+        let crosses = start(&mut self.handles, &asked, &mut chain);
+        self.chain = post_crossing(link, chain, crosses);
         self.begun += 1;
         Turn::Did
     }
 
     /// Collects the reply that came back first. `Idle` exactly where none did.
     pub fn collect<L: Link>(&mut self, link: &mut L) -> Turn
-        requires { IsReply (first_done (L.queue link.old)) self.old }
-        ensures collects { Collects (first_done (L.queue link.old)) self.old (L.queue link.old) result self.new (L.queue link.new) }
+        requires { IsReply (queue_at Commands (L.queues link.old)).done self.old }
+        ensures collects { Collects (queue_at Commands (L.queues link.old)).done self.old (queue_at Commands (L.queues link.old)) result self.new (queue_at Commands (L.queues link.new)) }
         ensures orderly { IsOrderly self.new }
     {
         let begun = self.begun;
-        let Some(done) = link.collect() else {
+        let Some(done) = link.collect(QueueId::Command) else {
             return Turn::Idle;
         };
         let asked = asked_at(&self.process, begun - 1).unwrap();
         answer(&mut self.handles, &asked, &done);
-        self.awaits = false;
+        self.chain = Some(done.parcel);
         Turn::Did
     }
 

@@ -11,15 +11,16 @@ use top::{NO_MEMORY, top_plain};
 use vm_io::{StdSink, StdSource, SureEngine};
 
 mod asked;
+mod chain;
 mod digest;
 mod echoes;
 mod guest;
 mod judge;
 mod number;
 mod printer;
-mod reader;
+mod reply_text;
 #[cfg(test)]
-mod reader_tests;
+mod reply_text_tests;
 mod run;
 #[cfg(test)]
 mod run_tests;
@@ -27,7 +28,6 @@ mod schedule;
 mod top;
 #[cfg(test)]
 mod top_tests;
-mod words;
 mod world;
 
 // The words after the program's name.

@@ -3,15 +3,15 @@
 ghost use Rattle.std.specs.Prelude.{◌≡◌, ◌++◌, OnOk, IfOk, codes, length, map};
 ghost use Rattle.std.specs.Fmt.{decimal};
 ghost use Rattle.hex.specs.Hex.{encode_lower};
-ghost use Rattle.v4l_const.specs.Errno.{errno_number, errno_name};
 ghost use Rattle.vm_script.specs.Lines.{echoes_by_handle};
 ghost use Rattle.vm_report.specs.Digest.{logs_of_process};
 ghost use Rattle.vm_report.specs.Logs.{handle_logs};
-ghost use Rattle.vm_report.specs.Text.{reply_text, session_text, call_text, head_text, entries_text, handles_text, text_of};
+ghost use Rattle.vm_report.specs.Text.{session_text, call_text, head_text, entries_text, handles_text, text_of};
 ghost use Rattle.vmedia.specs.Printing.{AllAnswered, handle_log};
 
 use crate::digest::digest;
 use crate::echoes::{Echoes, group_echoes};
+use crate::reply_text::push_reply;
 use itoa::Buffer;
 use std::alloc::Global;
 use v4l_const::Model;
@@ -39,23 +39,6 @@ pub fn push_number(text: &mut Vec<u8>, number: u32) -> Result<(), Memory>
     ensures { OnOk result (text.new.items ≡ text.old.items ++ decimal number) }
 {
     push(text, Buffer::new().format(number).as_bytes())
-}
-
-// Adds a reply.
-fn push_reply(text: &mut Vec<u8>, reply: &Reply) -> Result<(), Memory>
-    ensures { OnOk result (text.new.items ≡ text.old.items ++ reply_text reply.now) }
-{
-    match *reply {
-        Reply::Done => push(text, b"ok"),
-        Reply::Refused(errno) => {
-            push(text, b"err ")?;
-            push_number(text, errno.number())?;
-            push(text, b" ")?;
-            push(text, errno.name().as_bytes())
-        }
-        // The other replies are those of calls that aren't built.
-        _ => Ok(()),
-    }
 }
 
 // Adds a call's line: its number, its words and its reply.

@@ -1,8 +1,10 @@
 //! Runs a script on the whole machine.
 
-ghost use Rattle.std.specs.Prelude.{◌≡◌, ◌<◌, List, ℕ, Ok, IfOk};
+ghost use Rattle.std.specs.Prelude.{◌≡◌, ◌≤◌, List, ℕ, Ok, IfOk};
 ghost use Rattle.vm_script.specs.Grammar.{script_of};
-ghost use Rattle.vmedia.specs.Reading.{IsReadProcess};
+ghost use Rattle.vm_link.specs.Queue.{queue_at};
+ghost use Rattle.vm_link.specs.declared.link.QueueId.TheVariants.{Command as Commands};
+ghost use Rattle.vm_script.specs.Reading.{IsReadProcess};
 ghost use Rattle.vmedia.specs.Run.{IsRun, IsRunOf};
 ghost use Rattle.vmedia.specs.World.{IsEmpty};
 
@@ -15,8 +17,11 @@ use vm_link::{Link, PlainLink};
 use vm_mem::Memory;
 use vm_script::{Process, Script};
 
-/// How many parcels the link has room for.
-const LINK_ROOM: u16 = 64;
+/// How many descriptors the queue of commands has.
+const COMMAND_QUEUE: u16 = 64;
+
+/// How many descriptors the queue of events has.
+const EVENT_QUEUE: u16 = 16;
 
 /// What a run leaves: its text, and the link that it went over.
 #[derive(Drop)]
@@ -33,8 +38,8 @@ fn run_process<L: Link + Drop>(
     seed: u64,
 ) -> Result<Ran<L>, Memory>
     requires read { IsReadProcess process }
-    requires room { 0 < (L.queue link).room }
-    requires empty { IsEmpty (L.queue link) }
+    requires room { 64 ≤ (queue_at Commands (L.queues link)).size }
+    requires empty { IsEmpty (queue_at Commands (L.queues link)) }
     ensures { IfOk result (λ ran. IsRunOf Model.Capture process ran.text.items) }
 {
     let mut world = World::new(alloc, process, link)?;
@@ -57,8 +62,8 @@ pub fn run_over<L: Link + Drop>(
     seed: u64,
 ) -> Result<Ran<L>, Memory>
     requires script { (bytes : List ℕ) × (script_of bytes ≡ Ok script) }
-    requires room { 0 < (L.queue link).room }
-    requires empty { IsEmpty (L.queue link) }
+    requires room { 64 ≤ (queue_at Commands (L.queues link)).size }
+    requires empty { IsEmpty (queue_at Commands (L.queues link)) }
     ensures { IfOk result (λ ran. IsRun script ran.text.items) }
 {
     let mut processes = script.processes;
@@ -74,7 +79,7 @@ pub fn run(alloc: Global, script: Script, seed: u64) -> Result<Vec<u8>, Memory>
     requires { (bytes : List ℕ) × (script_of bytes ≡ Ok script) }
     ensures { IfOk result (λ text. IsRun script text.items) }
 {
-    let link = PlainLink::new(alloc, LINK_ROOM)?;
+    let link = PlainLink::new(alloc, COMMAND_QUEUE, EVENT_QUEUE)?;
     let ran = run_over(alloc, script, link, seed)?;
     Ok(ran.text)
 }

@@ -1,9 +1,10 @@
 ghost use Rattle.std.specs.Prelude.{◌<◌, ◌-◌, ◌^◌, length};
 
-use crate::reader::read_script;
 use crate::run::run_over;
 use std::test::Fail;
-use vm_link::{Finished, Link, Parcel, PlainLink};
+use vm_chain::Chain;
+use vm_link::{Finished, Link, Parcel, PlainLink, QueueId, Taken};
+use vm_script::read_script;
 
 /// A link that counts what goes over it.
 #[derive(Drop)]
@@ -16,51 +17,63 @@ struct Counting<L: Link> {
 }
 
 impl<L: Link> Link for Counting<L> {
-    ghost queue = { λ c. L.queue c.link };
+    ghost queues = { λ c. L.queues c.link };
 
-    fn untaken(&self) -> u16 {
-        self.link.untaken()
+    fn free(&self, q: QueueId) -> u16 {
+        self.link.free(q)
     }
 
-    fn uncollected(&self) -> u16 {
-        self.link.uncollected()
+    fn untaken(&self, q: QueueId) -> u16 {
+        self.link.untaken(q)
     }
 
-    fn post(&mut self, parcel: Parcel) {
+    fn uncollected(&self, q: QueueId) -> u16 {
+        self.link.uncollected(q)
+    }
+
+    fn post(&mut self, q: QueueId, parcel: Parcel) {
         self.posted = self.posted.saturating_add(1);
-        self.link.post(parcel);
+        self.link.post(q, parcel);
     }
 
-    fn take(&mut self) -> Option<Parcel> {
-        let parcel = self.link.take()?;
+    fn take(&mut self, q: QueueId, chain: &mut Chain) -> Option<Taken> {
+        let taken = self.link.take(q, chain)?;
         self.taken = self.taken.saturating_add(1);
-        Some(parcel)
+        Some(taken)
     }
 
-    fn finish(&mut self, done: Finished) {
+    fn finish(&mut self, q: QueueId, done: Finished) {
         self.finished = self.finished.saturating_add(1);
-        self.link.finish(done);
+        self.link.finish(q, done);
     }
 
-    fn collect(&mut self) -> Option<Finished> {
-        let done = self.link.collect()?;
+    fn collect(&mut self, q: QueueId) -> Option<Finished> {
+        let done = self.link.collect(q)?;
         self.collected = self.collected.saturating_add(1);
         Some(done)
     }
 }
 
 #[test]
-fn each_open_and_each_close_of_an_open_handle_crosses(rt: HostRuntime) -> Result<(), Fail> {
-    let scripts: [(&[u8], u32); 4] = [
+fn opens_and_the_calls_of_open_handles_cross(rt: HostRuntime) -> Result<(), Fail> {
+    let scripts: [(&[u8], u32); 6] = [
         (b"", 0),
         (b"open a\nclose a\n", 2),
         (b"open a\nclose a\nclose a\n", 2),
         (b"open a\nopen b\nclose b\nopen c\nclose a\nclose b\n", 5),
+        (
+            b"open a\nsfmt a cap ABCD 641 1\ntryfmt a cap NV12 17 481\ntryfmt a cap RGB3 0 4294967295\ngfmt a cap\n",
+            5,
+        ),
+        (
+            b"open a\ngfmt a out\nsinput a 4\nclose a\nginput a\nquerycap a\n",
+            4,
+        ),
     ];
     for (bytes, crossings) in scripts {
         let script = read_script(rt.alloc(), bytes)?;
         let link = Counting {
-            link: PlainLink::new(rt.alloc(), 1)?,
+            link: PlainLink::new(rt.alloc(), 64, 16)?,
             posted: 0,
             taken: 0,
             finished: 0,

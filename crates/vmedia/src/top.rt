@@ -11,12 +11,11 @@ ghost use Rattle.vmedia.specs.Top.{script_limit, script_status, kind_text, fault
 
 use crate::judge::seed_in;
 use crate::printer::{push, push_number};
-use crate::reader::read_script;
 use crate::run::run;
 use std::alloc::Global;
 use vm_io::{Engine, ReadError, Sink, Source, WriteFault, read_all, write_all};
 use vm_mem::Memory;
-use vm_script::{ScriptError, ScriptKind};
+use vm_script::{ScriptError, ScriptKind, read_script};
 
 /// How many bytes a script has at most.
 const SCRIPT_LIMIT: usize = 4_194_304;

@@ -2,15 +2,18 @@
 
 ghost use Rattle.std.specs.Prelude.{◌≡◌, ◌<◌, ◌≤◌, IfOk, IfSome, true, false, length, slice_get};
 ghost use Rattle.vm_link.specs.declared.link.Turn.TheVariants.{Did};
-ghost use Rattle.vmedia.specs.Reading.{IsReadProcess};
+ghost use Rattle.vm_link.specs.Queue.{queue_at};
+ghost use Rattle.vm_link.specs.declared.link.QueueId.TheVariants.{Command as Commands};
+ghost use Rattle.vm_script.specs.Reading.{IsReadProcess};
 ghost use Rattle.vmedia.specs.World.{IsEmpty, IsSound, enabled, enabled_in, is_enabled, left_of, is_done, turn_of};
 
 use crate::guest::Guest;
 use std::alloc::Global;
 use std::marker::Model;
+use v4l_const::Model as DeviceModel;
 use vm_handle::Handle;
 use vm_host::Host;
-use vm_link::{Link, Turn};
+use vm_link::{Link, QueueId, Turn};
 use vm_mem::Memory;
 use vm_script::Process;
 
@@ -34,13 +37,15 @@ pub struct World<L: Link> {
 }
 
 impl<L: Link> Model for World<L> {
+    ghost use Rattle.vm_link.specs.Queue.{queue_at};
+    ghost use Rattle.vm_link.specs.declared.link.QueueId.TheVariants.{Command as Commands};
     ghost use Rattle.vmedia.specs.World.{WorldState, IsSound};
 
     ghost Value = { WorldState };
 
-    ghost view = { λ w. record { guest = w.guest; host = w.host; queue = L.queue w.link } };
+    ghost view = { λ w. record { guest = w.guest; host = w.host; queue = queue_at Commands (L.queues w.link) } };
 
-    ghost invariant = { λ w. IsSound (record { guest = w.guest; host = w.host; queue = L.queue w.link }) };
+    ghost invariant = { λ w. IsSound (record { guest = w.guest; host = w.host; queue = queue_at Commands (L.queues w.link) }) };
 }
 
 // The step at a place among those that may be done.
@@ -65,19 +70,19 @@ impl<L: Link + Drop> World<L> {
     /// `Memory` where the logs' or the sessions' memory can't be had.
     pub fn new(alloc: Global, process: Process, link: L) -> Result<World<L>, Memory>
         requires read { IsReadProcess process }
-        requires room { 0 < (L.queue link).room }
-        requires empty { IsEmpty (L.queue link) }
+        requires room { 64 ≤ (queue_at Commands (L.queues link)).size }
+        requires empty { IsEmpty (queue_at Commands (L.queues link)) }
         ensures { IfOk result (λ w. w.guest.process ≡ process) }
     {
         let lines = process.lines.len() as u32;
         let guest = Guest::new(alloc, process)?;
-        let host = Host::new(alloc, lines)?;
+        let host = Host::new(alloc, DeviceModel::Capture, lines)?;
         Ok(World { guest, host, link })
     }
 
     /// The link, once the run is over.
     pub fn into_link(self) -> L
-        ensures { L.queue result ≡ self.queue }
+        ensures { queue_at Commands (L.queues result) ≡ self.queue }
     {
         let World {
             guest: _,
@@ -102,8 +107,8 @@ impl<L: Link> World<L> {
         ensures { result ≡ length (enabled_in self.now) }
     {
         usize::from(self.guest.can_issue())
-            + usize::from(self.link.untaken() > 0)
-            + usize::from(self.link.uncollected() > 0)
+            + usize::from(self.link.untaken(QueueId::Command) > 0)
+            + usize::from(self.link.uncollected(QueueId::Command) > 0)
     }
 
     /// The step at a place among those that may be done, in order. `None` exactly from their number on.
@@ -113,8 +118,8 @@ impl<L: Link> World<L> {
     {
         step_at(
             self.guest.can_issue(),
-            self.link.untaken() > 0,
-            self.link.uncollected() > 0,
+            self.link.untaken(QueueId::Command) > 0,
+            self.link.uncollected(QueueId::Command) > 0,
             k,
         )
     }

@@ -1,7 +1,6 @@
 use Rattle.std.proofs.Common.{drop}
-use Rattle.v4l_const.specs.declared.model.Model.TheVariants.{Capture}
 use Rattle.vmedia.proofs.DigestLemmas.{Follows}
 use Rattle.vmedia.proofs.digest.hash_log.Given as goal
 
 abbrev pub invariant-loop-entry : goal.invariant-loop-entry
-invariant-loop-entry l = Follows Capture l.session l.log (drop l.entry-index l.log) l.opened l.fn.hasher l.hasher
+invariant-loop-entry l = Follows l.model l.session l.log (drop l.entry-index l.log) l.opened l.fn.hasher l.hasher

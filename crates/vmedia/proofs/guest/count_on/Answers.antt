@@ -1,5 +1,5 @@
-use Rattle.std.proofs.Common.{◌≡◌, ◌+◌, ◌≤◌, true, false, arith, length, take, ap, ◌∙◌, get_or, sym}
-use Rattle.vm_script.specs.Lines.{is_on, lines_of}
+use Rattle.std.proofs.Common.{◌≡◌, arith, ap, ◌∙◌, get_or, sym}
+use Rattle.vm_script.specs.Lines.{is_on}
 use Rattle.vmedia.proofs.LinesLemmas.{lines_of-count, one_if}
 use Rattle.vmedia.proofs.guest.count_on.Goals.{then-is_on, else-is_on}
 use Rattle.vmedia.proofs.guest.count_on.Goals as goal

@@ -1,11 +1,11 @@
-use Rattle.std.proofs.Common.{◌≡◌, List, [], ◌∷◌, ◌++◌, subst, sym, ap, ◌∙◌, Vec, ℕ, Global}
+use Rattle.std.proofs.Common.{◌≡◌, [], ◌∷◌, ◌++◌, subst, sym, ap, ◌∙◌}
 use Rattle.std.specs.Option.{option_to_list}
 use Rattle.v4l_const.specs.declared.model.Model.TheVariants.{Capture}
 use Rattle.v4l_const.specs.declared.model.Model.{Model}
-use Rattle.vm_script.specs.Script.{ProcessLines, ScriptLines}
-use Rattle.vmedia.specs.Reading.{IsReadProcess}
+use Rattle.vm_script.specs.Script.{ProcessLines}
+use Rattle.vm_script.specs.Reading.{IsReadProcess}
 use Rattle.vmedia.specs.Run.{IsRun, IsRunOf}
-use Rattle.vmedia.proofs.ScriptLemmas.{read_process}
+use Rattle.vm_script.proofs.ScriptLemmas.{read_process}
 use Rattle.vmedia.proofs.RunLemmas.{only_process, ok_weaken}
 use Rattle.vmedia.proofs.run.run_over.Goals as goal
 

@@ -1,4 +1,4 @@
-use Rattle.std.proofs.Common.{rules, ◌≡◌, ◌∙◌, Option, true, IfSome, slice_get, subst, sym, ap}
+use Rattle.std.proofs.Common.{rules, ◌≡◌, Option, true, IfSome, slice_get, subst, sym}
 use Rattle.vmedia.specs.declared.world.Step.{Step}
 use Rattle.vmedia.specs.World.{WorldState, enabled_in, is_enabled, can_issue, is_nonempty}
 use Rattle.vmedia.proofs.WorldLemmas.{enabled_may}
