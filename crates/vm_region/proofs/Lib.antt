@@ -1,0 +1,5 @@
+pub mod CountLemmas
+pub mod FitLemmas
+pub mod JournalLemmas
+pub mod OrderLemmas
+pub mod SoundLemmas
