@@ -10,6 +10,16 @@ pub const BUF_TYPE_CAPTURE: u32 = 1;
 /// Source: Linux V4L2, `V4L2_BUF_TYPE_VIDEO_OUTPUT`.
 pub const BUF_TYPE_OUTPUT: u32 = 2;
 
+/// The buffer type of pictures of several planes that the device makes.
+///
+/// Source: Linux V4L2, `V4L2_BUF_TYPE_VIDEO_CAPTURE_MPLANE`.
+pub const BUF_TYPE_CAPTURE_MPLANE: u32 = 9;
+
+/// The buffer type of pictures of several planes that the device reads.
+///
+/// Source: Linux V4L2, `V4L2_BUF_TYPE_VIDEO_OUTPUT_MPLANE`.
+pub const BUF_TYPE_OUTPUT_MPLANE: u32 = 10;
+
 /// The memory kind of buffers that the device gives and the user maps.
 ///
 /// Source: Linux V4L2, `V4L2_MEMORY_MMAP`.
@@ -49,6 +59,11 @@ pub const EVENT_FRAME_SYNC: u32 = 4;
 ///
 /// Source: Linux V4L2, `V4L2_FIELD_NONE`.
 pub const FIELD_NONE: u32 = 1;
+
+/// How many inputs a device with inputs has.
+///
+/// Source: own.
+pub const INPUT_COUNT: u32 = 4;
 
 /// An input is a camera.
 ///
