@@ -1,2 +1,4 @@
 pub mod GuestMemory
+pub mod Lists
 pub mod Page
+pub mod Seeded
