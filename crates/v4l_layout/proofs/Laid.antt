@@ -6,7 +6,7 @@ use Rattle.std.proofs.Math.Seq.{take-append-add, drop-append-add}
 use Rattle.std.proofs.lemmas.Nat.{from_le_bytes-to_le_bytes_4, from_le_bytes-to_le_bytes_8}
 use Rattle.v4l_layout.specs.declared.field.Field.{Field}
 use Rattle.v4l_layout.specs.declared.field.Value.{Value}
-use Rattle.v4l_layout.specs.declared.field.Value.TheVariants.{Le32, Le64, Bytes16, Bytes32, Bytes64}
+use Rattle.v4l_layout.specs.declared.field.Value.TheVariants.{Byte, Le32, Le64, Bytes16, Bytes32, Bytes64}
 use Rattle.v4l_layout.specs.Layout.{Holds, IsInType, IsLaid, ReadsAs, bytes_of, layout_from, width}
 
 -- bytes with a field's set
@@ -20,6 +20,7 @@ put_all bytes (f ∷ fs) = put_all (put_in bytes f) fs
 
 -- a value takes the bytes of its width
 pub length_of_value : (v : Value) → IsInType v → length (bytes_of v) ≡ width v
+length_of_value (Byte n) h = refl
 length_of_value (Le32 n) h = refl
 length_of_value (Le64 n) h = refl
 length_of_value (Bytes16 bs) h = h
@@ -28,6 +29,7 @@ length_of_value (Bytes64 bs) h = h
 
 -- these bytes hold the value
 pub value_holds : (v : Value) → IsInType v → Holds (bytes_of v) v
+value_holds (Byte n) h = refl
 value_holds (Le32 n) h = from_le_bytes-to_le_bytes_4 n h
 value_holds (Le64 n) h = from_le_bytes-to_le_bytes_8 n h
 value_holds (Bytes16 bs) h = refl

@@ -3,10 +3,11 @@ use Rattle.std.specs.Prelude.{◌≡◌, ◌≤◌, ◌<◌, ◌+◌, ◌-◌, �
 use Rattle.std.specs.Int.{to_le_bytes, from_le_bytes, w32, w64}
 use Rattle.v4l_layout.specs.declared.field.Field.{Field}
 use Rattle.v4l_layout.specs.declared.field.Value.{Value}
-use Rattle.v4l_layout.specs.declared.field.Value.TheVariants.{Le32, Le64, Bytes16, Bytes32, Bytes64}
+use Rattle.v4l_layout.specs.declared.field.Value.TheVariants.{Byte, Le32, Le64, Bytes16, Bytes32, Bytes64}
 
 -- how many bytes a value takes
 abbrev pub width : Value → ℕ
+width (Byte n) = 1
 width (Le32 n) = 4
 width (Le64 n) = 8
 width (Bytes16 bs) = 16
@@ -15,6 +16,7 @@ width (Bytes64 bs) = 64
 
 -- these bytes; those of a number are the lowest first
 abbrev pub bytes_of : Value → List ℕ
+bytes_of (Byte n) = n ∷ []
 bytes_of (Le32 n) = to_le_bytes w32 n
 bytes_of (Le64 n) = to_le_bytes w64 n
 bytes_of (Bytes16 bs) = bs
@@ -32,6 +34,7 @@ layout_bytes size fields = layout_from size 0 fields
 
 -- bytes that hold a value
 abbrev pub Holds : List ℕ → Value → Type 0
+Holds piece (Byte n) = piece ≡ n ∷ []
 Holds piece (Le32 n) = from_le_bytes w32 piece ≡ n
 Holds piece (Le64 n) = from_le_bytes w64 piece ≡ n
 Holds piece (Bytes16 bs) = piece ≡ bs
@@ -45,6 +48,7 @@ ReadsAs bytes (f ∷ fs) = Holds (take (width f.value) (drop f.at bytes)) f.valu
 
 -- a value has the range of its type
 abbrev pub IsInType : Value → Type 0
+IsInType (Byte n) = n < 2 ^ 8
 IsInType (Le32 n) = n < 2 ^ 32
 IsInType (Le64 n) = n < 2 ^ 64
 IsInType (Bytes16 bs) = length bs ≡ 16

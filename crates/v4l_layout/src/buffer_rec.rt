@@ -2,8 +2,9 @@ ghost use Rattle.std.specs.Prelude.{◌≡◌, ◌<◌, ◌++◌, ◌↔◌, len
 ghost use Rattle.v4l_layout.specs.Layout.{IsLaid, ReadsAs};
 ghost use Rattle.v4l_layout.specs.Records.{buffer_size, buffer_fields, buffer_bytes};
 
-use crate::read::{array, le32, le64};
+use crate::read::array;
 use crate::{Field, Short, Value, write_fields};
+use vm_num::{le32, le64};
 
 /// The size of a `BufferRec`, in bytes.
 pub const BUFFER_SIZE: usize = 88;

@@ -3,6 +3,8 @@ ghost use Rattle.std.specs.Prelude.{◌≡◌};
 /// What a field of a record holds.
 #[derive(Clone, Copy, Debug, PartialEq, Eq)]
 pub enum Value {
+    /// A number in one byte.
+    Byte(u8),
     /// A number in four bytes, the lowest first.
     Le32(u32),
     /// A number in eight bytes, the lowest first.

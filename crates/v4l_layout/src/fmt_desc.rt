@@ -2,8 +2,9 @@ ghost use Rattle.std.specs.Prelude.{◌≡◌, ◌<◌, ◌++◌, ◌↔◌, len
 ghost use Rattle.v4l_layout.specs.Layout.{IsLaid, ReadsAs};
 ghost use Rattle.v4l_layout.specs.Records.{fmtdesc_size, fmtdesc_fields, fmtdesc_bytes};
 
-use crate::read::{array, le32};
+use crate::read::array;
 use crate::{Field, Short, Value, write_fields};
+use vm_num::le32;
 
 /// The size of a `FmtDesc`, in bytes.
 pub const FMTDESC_SIZE: usize = 64;

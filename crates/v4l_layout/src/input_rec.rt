@@ -2,8 +2,9 @@ ghost use Rattle.std.specs.Prelude.{◌≡◌, ◌<◌, ◌++◌, ◌↔◌, len
 ghost use Rattle.v4l_layout.specs.Layout.{IsLaid, ReadsAs};
 ghost use Rattle.v4l_layout.specs.Records.{input_size, input_fields, input_bytes};
 
-use crate::read::{array, le32};
+use crate::read::array;
 use crate::{Field, Short, Value, write_fields};
+use vm_num::le32;
 
 /// The size of a `InputRec`, in bytes.
 pub const INPUT_SIZE: usize = 80;

@@ -2,8 +2,8 @@ ghost use Rattle.std.specs.Prelude.{◌≡◌, ◌<◌, ◌++◌, ◌↔◌, len
 ghost use Rattle.v4l_layout.specs.Layout.{IsLaid, ReadsAs};
 ghost use Rattle.v4l_layout.specs.Records.{plane_size, plane_fields, plane_bytes};
 
-use crate::read::{le32, le64};
 use crate::{Field, Short, Value, write_fields};
+use vm_num::{le32, le64};
 
 /// The size of a `PlaneRec`, in bytes.
 pub const PLANE_SIZE: usize = 64;

@@ -2,8 +2,8 @@ ghost use Rattle.std.specs.Prelude.{◌≡◌, ◌<◌, ◌++◌, ◌↔◌, len
 ghost use Rattle.v4l_layout.specs.Layout.{IsLaid, ReadsAs};
 ghost use Rattle.v4l_layout.specs.Records.{subscription_size, subscription_fields, subscription_bytes};
 
-use crate::read::le32;
 use crate::{Field, Short, Value, write_fields};
+use vm_num::le32;
 
 /// The size of a `Subscription`, in bytes.
 pub const SUBSCRIPTION_SIZE: usize = 32;

@@ -250,3 +250,15 @@ fn events_and_inputs(rt: HostRuntime) -> Result<(), Fail> {
     assert!(rt; read_input(front(&out, 79)) == Err(Short));
     Ok(())
 }
+
+#[test]
+fn fields_of_one_byte(rt: HostRuntime) -> Result<(), Fail> {
+    let fields = [
+        Field::new(1, Value::Byte(0x7f)),
+        Field::new(2, Value::Byte(0xff)),
+    ];
+    let mut out = [0xee; 7];
+    assert!(rt; write_fields(5, &fields, &mut out).is_ok());
+    assert!(rt; out == [0, 0x7f, 0xff, 0, 0, 0xee, 0xee]);
+    Ok(())
+}

@@ -4,6 +4,7 @@ ghost use Rattle.std.specs.Prelude.{◌≡◌, ◌+◌, ◌<◌, ◌≤◌, ◌+
 ghost use Rattle.v4l_layout.specs.Layout.{IsLaid, ReadsAs, bytes_of, layout_bytes, width};
 
 use crate::{Field, Short, Value};
+use vm_num::{put32, put64};
 
 impl Field {
     /// Sets the field's bytes, and no other.
@@ -12,8 +13,9 @@ impl Field {
         ensures { out.new ≡ take self.at out.old ++ (bytes_of self.value ++ drop (self.at + width self.value) out.old) }
     {
         match self.value {
-            Value::Le32(number) => put_bytes(out, self.at, &number.to_le_bytes()),
-            Value::Le64(number) => put_bytes(out, self.at, &number.to_le_bytes()),
+            Value::Byte(number) => put_bytes(out, self.at, &[number]),
+            Value::Le32(number) => put32(out, self.at, number),
+            Value::Le64(number) => put64(out, self.at, number),
             Value::Bytes16(bytes) => put_bytes(out, self.at, &bytes),
             Value::Bytes32(bytes) => put_bytes(out, self.at, &bytes),
             Value::Bytes64(bytes) => put_bytes(out, self.at, &bytes),

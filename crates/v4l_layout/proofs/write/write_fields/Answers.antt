@@ -1,5 +1,5 @@
 use Rattle.std.proofs.Common.{ℕ, List, [], drop, refl, sym, subst, arith}
-use Rattle.v4l_layout.specs.declared.field.Value.TheVariants.{Le32}
+use Rattle.v4l_layout.specs.declared.field.Value.TheVariants.{Byte}
 use Rattle.v4l_layout.specs.Layout.{ReadsAs}
 use Rattle.v4l_layout.proofs.Laid.{field_within, all_written, laid_reads_back}
 use Rattle.v4l_layout.proofs.write.write_fields.Goals as goal
@@ -7,7 +7,7 @@ use Rattle.v4l_layout.proofs.write.write_fields.Goals as goal
 -- src/write.rt:46:9
 pub put-requires : goal.put-requires
 put-requires c =
-    omega (arith, field_within c.args.size 0 c.args.fields.now c.loop-field.field-index (record { at = 0; value = Le32 0 }) c.requires c.loop-field-test.true)
+    omega (arith, field_within c.args.size 0 c.args.fields.now c.loop-field.field-index (record { at = 0; value = Byte 0 }) c.requires c.loop-field-test.true)
 
 -- src/write.rt:34:1
 pub returns-clause-ok : goal.returns-clause-ok
