@@ -1,5 +1,5 @@
 -- The shared region: its journal, and which ranges of it are live.
-use Rattle.std.specs.Prelude.{◌≡◌, ◌≤◌, ◌<◌, ℕ, ◌+◌, ◌-◌, ◌*◌, ◌%◌, max, Bool, true, false, not, nat_lt, ◌==◌, ◌&&◌, ◌⊎◌, if◌then◌else◌, Option, Some, None, List, [], ◌∷◌, ◌++◌, length, map, filter, sum_by}
+use Rattle.std.specs.Prelude.{◌≡◌, ◌≢◌, ◌≤◌, ◌<◌, ℕ, ◌+◌, ◌-◌, ◌*◌, ◌%◌, max, Bool, true, false, not, nat_lt, ◌==◌, ◌&&◌, ◌⊎◌, if◌then◌else◌, Option, Some, None, List, [], ◌∷◌, ◌++◌, length, map, filter, sum_by}
 use Rattle.vm_region.specs.declared.entry.RegionEntry.{RegionEntry}
 use Rattle.vm_region.specs.declared.entry.RegionEntry.TheVariants.{Map, Drop}
 use Rattle.vm_region.specs.declared.live_range.LiveRange.{LiveRange}
@@ -72,7 +72,8 @@ map_count (Drop addr count ∷ es) = map_count es
 
 -- ---- the region
 
--- the journal, and the live ranges with their tags
+-- The journal, and the live ranges with their tags. No contract says in which order these stand: they are looked up by
+-- their address and by their tag.
 pub record RegionState : Type 0 where
   pub journal : List RegionEntry
   pub ranges : List LiveRange
@@ -91,6 +92,48 @@ abbrev pub range_of : ℕ → List LiveRange → Option LiveRange
 range_of tag [] = None
 range_of tag (r ∷ rs) = if r.tag == tag then Some r else range_of tag rs
 
+-- the least place where so many pages meet no range: it begins a page, and at each lower address they meet one
+pub record IsLeast (addr pages : ℕ) (rs : List LiveRange) : Type 0 where
+  pub page : addr % 4096 ≡ 0
+  pub free : is_free addr pages (map placed rs) ≡ true
+  pub least : (lower : ℕ) → lower < addr → is_free lower pages (map placed rs) ≡ false
+
+-- The journal has this entry more. The live ranges differ in one alone, which starts at this address and has this tag: it
+-- is this one from now on, or live no more.
+pub record Changes (old new : RegionState) (entry : RegionEntry) (addr tag : ℕ) (now : Option LiveRange) : Type 0 where
+  pub journal : new.journal ≡ old.journal ++ entry ∷ []
+  pub here : range_at addr new.ranges ≡ now
+  pub tagged : range_of tag new.ranges ≡ now
+  pub elsewhere : (other : ℕ) → other ≢ addr → range_at other new.ranges ≡ range_at other old.ranges
+  pub tagged_otherwise : (other : ℕ) → other ≢ tag → range_of other new.ranges ≡ range_of other old.ranges
+
+-- A mapping of a tag gives its live range again, which is counted once more. Where the tag has none, a range of its own
+-- begins to live at the least place.
+abbrev pub Maps : Option LiveRange → RegionState → ℕ → ℕ → ℕ → RegionState → Type 0
+Maps (Some r) old tag pages addr new =
+    (addr ≡ r.addr) × Changes old new (Map addr pages (r.count + 1)) addr tag (Some (record r { count = r.count + 1 }))
+Maps None old tag pages addr new =
+    IsLeast addr pages old.ranges
+    × Changes old new (Map addr pages 1) addr tag (Some (record { addr = addr; pages = pages; tag = tag; count = 1 }))
+
+-- a live range with another count; with the count 0 it is live no more
+abbrev pub recounted : ℕ → LiveRange → Option LiveRange
+recounted count r = if count == 0 then None else Some (record r { count = count })
+
+-- a mapping of the live range that starts at an address is given back
+abbrev pub Unmaps : RegionState → ℕ → LiveRange → RegionState → Type 0
+Unmaps old addr r new = Changes old new (Drop addr (r.count - 1)) addr r.tag (recounted (r.count - 1) r)
+
+-- Each live range has one address and one tag, has pages and a count and begins a page. No two of them meet.
+pub record AreApart (rs : List LiveRange) : Type 0 where
+  pub by_address : (addr : ℕ) (r : LiveRange) → range_at addr rs ≡ Some r → (r.addr ≡ addr) × (range_of r.tag rs ≡ Some r)
+  pub by_tag : (tag : ℕ) (r : LiveRange) → range_of tag rs ≡ Some r → (r.tag ≡ tag) × (range_at r.addr rs ≡ Some r)
+  pub whole : (addr : ℕ) (r : LiveRange) → range_at addr rs ≡ Some r → (1 ≤ r.pages) × (1 ≤ r.count) × (addr % 4096 ≡ 0)
+  pub apart : (addr other : ℕ) (r s : LiveRange) → range_at addr rs ≡ Some r → range_at other rs ≡ Some s → addr ≢ other →
+      meets addr r.pages other s.pages ≡ false
+
+-- ---- what the region keeps
+
 -- the ranges where the one that starts at this address has this count; with the count 0 it is gone
 abbrev pub counted : ℕ → ℕ → List LiveRange → List LiveRange
 counted addr count [] = []
@@ -98,38 +141,12 @@ counted addr count (r ∷ rs) =
     if r.addr == addr then (if count == 0 then counted addr count rs else record r { count = count } ∷ counted addr count rs)
     else r ∷ counted addr count rs
 
--- the least place where so many pages meet no range: it begins a page, and at each lower address they meet one
-pub record IsLeast (addr pages : ℕ) (rs : List LiveRange) : Type 0 where
-  pub page : addr % 4096 ≡ 0
-  pub free : is_free addr pages (map placed rs) ≡ true
-  pub least : (lower : ℕ) → lower < addr → is_free lower pages (map placed rs) ≡ false
-
--- A mapping of a tag gives its live range again, which is counted once more. Where the tag has none, a range of its own
--- begins to live at the least place.
+-- The ranges after a mapping of a tag, which gives its live range again, counted once more. Where the tag has none, a
+-- range of its own stands behind them, at the least place.
 abbrev pub Grants : Option LiveRange → ℕ → ℕ → List LiveRange → LiveRange → List LiveRange → Type 0
 Grants (Some r) tag pages old given new = (given ≡ record r { count = r.count + 1 }) × (new ≡ counted r.addr (r.count + 1) old)
 Grants None tag pages old given new =
     IsLeast given.addr pages old × (given ≡ record { addr = given.addr; pages = pages; tag = tag; count = 1 }) × (new ≡ old ++ given ∷ [])
-
--- the same of the region, by the live range of the tag: the journal has an entry more
-abbrev pub Maps : Option LiveRange → RegionState → ℕ → ℕ → ℕ → RegionState → Type 0
-Maps (Some r) old tag pages addr new = (addr ≡ r.addr) × (new ≡ record {
-  journal = old.journal ++ Map r.addr pages (r.count + 1) ∷ [];
-  ranges = counted r.addr (r.count + 1) old.ranges;
-})
-Maps None old tag pages addr new = IsLeast addr pages old.ranges × (new ≡ record {
-  journal = old.journal ++ Map addr pages 1 ∷ [];
-  ranges = old.ranges ++ record { addr = addr; pages = pages; tag = tag; count = 1 } ∷ [];
-})
-
--- a mapping of the live range that starts at an address is given back
-abbrev pub unmapped : RegionState → ℕ → LiveRange → RegionState
-unmapped s addr r = record {
-  journal = s.journal ++ Drop addr (r.count - 1) ∷ [];
-  ranges = counted addr (r.count - 1) s.ranges;
-}
-
--- ---- what the region keeps
 
 -- the end of the first range that so many pages from an address on meet
 abbrev pub blocking_end : ℕ → ℕ → List LiveRange → Option ℕ

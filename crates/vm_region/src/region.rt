@@ -1,6 +1,7 @@
-ghost use Rattle.std.specs.Prelude.{◌≡◌, ◌+◌, ◌*◌, ◌^◌, ◌<◌, ◌≤◌, ◌↔◌, [], map, IfOk, OnOk, OnErr, IsErr, IfSome, None, IfErr};
+ghost use Rattle.std.specs.Option.{option_map};
+ghost use Rattle.std.specs.Prelude.{◌≡◌, ℕ, ◌+◌, ◌*◌, ◌^◌, ◌<◌, ◌≤◌, ◌↔◌, [], IfOk, OnOk, OnErr, IsErr, IfSome, None, IfErr};
 ghost use Rattle.v4l_const.specs.declared.errno.Errno.TheVariants.{Einval};
-ghost use Rattle.vm_region.specs.Region.{IsOrderly, IsSoundJournal, live_ranges, placed, map_count, range_of, range_at, Maps, unmapped};
+ghost use Rattle.vm_region.specs.Region.{IsSoundJournal, live_ranges, placed, placed_at, map_count, range_of, range_at, Maps, Unmaps, AreApart};
 
 use crate::entry::RegionEntry;
 use crate::live_range::{LiveRange, grant, mappings_of, range_at, set_count};
@@ -68,7 +69,7 @@ impl Region {
     pub fn unmap(&mut self, addr: u64) -> Result<(), Errno>
         ensures refused { IsErr result ↔ (range_at addr self.old.ranges ≡ None) }
         ensures errno { IfErr result (λ e. e ≡ Einval) }
-        ensures ok { OnOk result (IfSome (range_at addr self.old.ranges) (λ r. self.new ≡ unmapped self.old addr r)) }
+        ensures ok { OnOk result (IfSome (range_at addr self.old.ranges) (λ r. Unmaps self.old addr r self.new)) }
         ensures err { OnErr result (self.new ≡ self.old) }
     {
         let Some(range) = range_at(self.ranges.as_slice(), addr) else {
@@ -85,8 +86,8 @@ impl Region {
     pub fn journal(&self) -> &[RegionEntry]
         ensures entries { result.now ≡ self.now.journal }
         ensures sound { IsSoundJournal result.now }
-        ensures live { live_ranges result.now ≡ map placed self.now.ranges }
-        ensures orderly { IsOrderly self.now.ranges }
+        ensures live { (addr : ℕ) → placed_at addr (live_ranges result.now) ≡ option_map placed (range_at addr self.now.ranges) }
+        ensures apart { AreApart self.now.ranges }
     {
         self.journal.as_slice()
     }

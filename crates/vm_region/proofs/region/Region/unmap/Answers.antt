@@ -1,6 +1,7 @@
-use Rattle.std.proofs.Common.{◌≡◌, Some, IfSome, refl, subst, arith}
+use Rattle.std.proofs.Common.{◌≡◌, Some, IfSome, subst, arith}
 use Rattle.std.proofs.lemmas.Grind.{common_steps}
-use Rattle.vm_region.specs.Region.{RegionState, range_at, unmapped}
+use Rattle.vm_region.specs.Region.{RegionState, Unmaps, range_at}
+use Rattle.vm_region.proofs.LookUpLemmas.{unmaps_counted}
 use Rattle.vm_region.proofs.OrderLemmas.{found}
 use Rattle.vm_region.proofs.SoundLemmas.{lowered}
 use Rattle.vm_region.proofs.region.Region.unmap.Goals as goal
@@ -30,6 +31,7 @@ returns-clause-ok c =
     let at : range_at c.args.addr c.self.inside.ranges.items ≡ Some c.in-Some.range = grind (arith, common_steps) in
     let old : RegionState = record { journal = c.self.inside.journal.items; ranges = c.self.inside.ranges.items } in
     let new : RegionState = record { journal = c.push_reserved.new.self.items; ranges = c.set_count.new.ranges.items } in
-    let same : new ≡ unmapped old c.args.addr c.in-Some.range = rw (c.push_reserved.ensures.items, c.set_count.ensures) refl in
-    let here : IfSome (range_at c.args.addr old.ranges) (λ r. new ≡ unmapped old c.args.addr r) = rw at same in
-    subst (λ (s : RegionState). IfSome (range_at c.args.addr s.ranges) (λ r. new ≡ unmapped s c.args.addr r)) c.self.view_is here
+    let done : Unmaps old c.args.addr c.in-Some.range new =
+    rw (c.push_reserved.ensures.items, c.set_count.ensures) (unmaps_counted old c.args.addr c.in-Some.range c.self.invariant.orderly at) in
+    let here : IfSome (range_at c.args.addr old.ranges) (λ r. Unmaps old c.args.addr r new) = rw at done in
+    subst (λ (s : RegionState). IfSome (range_at c.args.addr s.ranges) (λ r. Unmaps s c.args.addr r new)) c.self.view_is here
