@@ -1,5 +1,5 @@
 ghost use Rattle.std.specs.Prelude.{◌≡◌, ◌+◌, ◌<◌, ◌≤◌, ◌↔◌, ◌++◌, List, ℕ, length, take, drop, replicate, slice_index, slice_set, IsTrue, IsErr, IfOk, OnOk, OnErr};
-ghost use Rattle.vm_frame.specs.Frame.{seeded};
+ghost use Rattle.vm_mem.specs.Seeded.{seeded};
 
 use std::alloc::Global;
 use std::marker::Model;

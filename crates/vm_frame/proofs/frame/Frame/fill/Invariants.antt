@@ -1,5 +1,5 @@
 use Rattle.std.proofs.Common.{◌≡◌, ◌+◌, ◌*◌, ◌%◌, take}
-use Rattle.vm_frame.specs.Frame.{seeded}
+use Rattle.vm_mem.specs.Seeded.{seeded}
 use Rattle.vm_frame.proofs.frame.Frame.fill.Given as goal
 
 abbrev pub invariant-loop-byte : goal.invariant-loop-byte
