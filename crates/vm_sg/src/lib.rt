@@ -1,0 +1,17 @@
+//! Scatter lists: the memory of a user as it is made, the entries as the wire brings them, and copies
+//! to and from the bytes that they name.
+#![tactic(auto)]
+
+mod copies;
+mod faults;
+mod user_memory;
+mod wire;
+
+pub use copies::{gather_into, scatter_from};
+pub use faults::{check, total};
+pub use user_memory::of_user;
+pub use vm_frame::SgFault;
+pub use wire::load;
+
+#[cfg(test)]
+mod tests;
