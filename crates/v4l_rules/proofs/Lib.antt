@@ -1,0 +1,4 @@
+pub mod AdjustedLemmas
+pub mod ModelLemmas
+pub mod SeenLemmas
+pub mod SetLemmas

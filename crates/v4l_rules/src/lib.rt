@@ -1,0 +1,12 @@
+//! The rules of models, queues and formats that a local handle and the device's session share,
+//! whatever else the records of their queues keep.
+#![tactic(auto)]
+
+mod formats;
+mod queues;
+
+pub use formats::{FIRST_FORMAT, adjust_from, first_format, is_source, sized_as};
+pub use queues::place_in;
+
+#[cfg(test)]
+mod tests;
