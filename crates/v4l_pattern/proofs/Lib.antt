@@ -1,0 +1,4 @@
+pub mod ShiftLemmas
+pub mod CopyLemmas
+pub mod LineLemmas
+pub mod FillLemmas
