@@ -1,0 +1,5 @@
+pub mod RowLemmas
+pub mod ListLemmas
+pub mod LineLemmas
+pub mod PlaneLemmas
+pub mod PictureLemmas
