@@ -1,5 +1,5 @@
 -- Lemmas on how often an index stands in a list.
-use Rattle.std.proofs.Common.{◌≡◌, ◌≢◌, ℕ, ◌+◌, ◌<◌, ◌≤◌, ◌==◌, true, false, not, List, [], ◌∷◌, ◌++◌, length, map, filter, refl, arith, inl, inr}
+use Rattle.std.proofs.Common.{◌≡◌, ℕ, ◌<◌, ◌≤◌, ◌==◌, true, false, not, List, [], ◌∷◌, length, map, filter, refl, arith, inl, inr}
 use Rattle.std.specs.List.{list_any, AllByRecursion, IsDistinct}
 use Rattle.std.proofs.Math.Dec.{eqb}
 use Rattle.std.proofs.lemmas.Bool.{cases_eq}
@@ -7,20 +7,10 @@ use Rattle.std.proofs.lemmas.Bool.Decides.{nat_tests}
 use Rattle.std.proofs.lemmas.Map.Keys.{IsDistinct-cons}
 use Rattle.std.proofs.lemmas.Map.Steps.{length-le_from_distinct_below}
 use Rattle.vm_queue.specs.declared.queued.Queued.{Queued}
-use Rattle.vm_queue.specs.Buffers.{occurrences}
+use Rattle.vm_mem.specs.Lists.{occurrences}
 
 abbrev pub indices : List Queued → List ℕ
 indices bs = map (λ (b : Queued). b.buffer.index) bs
-
-pub occurrences-append : (n : ℕ) (xs ys : List ℕ) → occurrences n (xs ++ ys) ≡ occurrences n xs + occurrences n ys
-occurrences-append n [] ys = omega arith
-occurrences-append n (x ∷ xs) ys = grind (arith, nat_tests, occurrences-append n xs ys)
-
-pub occurrences-one : (n : ℕ) → occurrences n (n ∷ []) ≡ 1
-occurrences-one n = grind (arith, nat_tests)
-
-pub occurrences-other : (n m : ℕ) → n ≢ m → occurrences n (m ∷ []) ≡ 0
-occurrences-other n m differs = grind (arith, nat_tests)
 
 -- what isn't found doesn't occur, and what is found does
 pub not_found : (n : ℕ) (xs : List ℕ) → list_any (λ x. x == n) xs ≡ false → occurrences n xs ≡ 0

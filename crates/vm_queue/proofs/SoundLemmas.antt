@@ -8,8 +8,10 @@ use Rattle.std.proofs.lemmas.Bool.Decides.{nat_tests}
 use Rattle.v4l_layout.specs.declared.buffer_rec.BufferRec.{BufferRec}
 use Rattle.vm_frame.specs.declared.mem.Held.{Held}
 use Rattle.vm_queue.specs.declared.queued.Queued.{Queued}
-use Rattle.vm_queue.specs.Buffers.{Buffers, IsSound, occurrences, away, is_home, is_queued, is_out, pushed, settled, drained}
-use Rattle.vm_queue.proofs.CountLemmas.{indices, occurrences-append, occurrences-one, occurrences-other, not_found, found, found_nowhere, not_queued, queued_nowhere, taken_out, no_oftener, few_below}
+use Rattle.vm_mem.specs.Lists.{occurrences}
+use Rattle.vm_mem.proofs.OccurrenceLemmas.{occurrences-append, occurrences-one, occurrences-other}
+use Rattle.vm_queue.specs.Buffers.{Buffers, IsSound, away, is_home, is_queued, is_out, pushed, settled, drained}
+use Rattle.vm_queue.proofs.CountLemmas.{indices, not_found, found, found_nowhere, not_queued, queued_nowhere, taken_out, no_oftener, few_below}
 
 -- how often an index is away
 away_counts : (index : ℕ) (q : Buffers) → occurrences index (away q) ≡ occurrences index (indices q.queued) + occurrences index q.out

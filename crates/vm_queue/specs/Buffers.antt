@@ -1,9 +1,11 @@
 -- The device's side of a queue of buffers: which are queued, in which order, and which are out.
 -- Source: own, after the Linux V4L2 interface, "Streaming I/O".
-use Rattle.std.specs.Prelude.{ℕ, ◌+◌, ◌<◌, ◌≤◌, ◌==◌, ◌&&◌, Bool, not, nat_lt, if◌then◌else◌, Option, Some, None, List, [], ◌∷◌, ◌++◌, map, filter}
+use Rattle.std.specs.Prelude.{ℕ, ◌<◌, ◌≤◌, ◌==◌, ◌&&◌, Bool, not, nat_lt, Option, List, [], ◌∷◌, ◌++◌, map, filter}
 use Rattle.std.specs.List.{list_any}
+use Rattle.std.specs.Option.{option_map}
 use Rattle.v4l_layout.specs.declared.buffer_rec.BufferRec.{BufferRec}
 use Rattle.vm_frame.specs.declared.mem.Held.{Held}
+use Rattle.vm_mem.specs.Lists.{first_of, occurrences}
 use Rattle.vm_queue.specs.declared.queued.Queued.{Queued}
 
 -- The memory kind, how many buffers there are and how long each is, as they were asked for last. The buffers that are
@@ -33,10 +35,9 @@ is_home q index = nat_lt index q.count && (not (is_queued q index) && not (is_ou
 abbrev pub pushed : Buffers → BufferRec → Held → Buffers
 pushed q buffer held = record q { queued = q.queued ++ record { buffer = buffer; held = held } ∷ [] }
 
--- the buffer that is queued first
-abbrev pub first_of : List Queued → Option (BufferRec × Held)
-first_of [] = None
-first_of (b ∷ bs) = Some (b.buffer, b.held)
+-- the buffer that is queued first, with its memory
+abbrev pub first_queued : Buffers → Option (BufferRec × Held)
+first_queued q = option_map (λ b. (b.buffer, b.held)) (first_of q.queued)
 
 -- the first of these buffers is out, and the others are queued; where there is none, nothing changes
 abbrev pub popped_from : List Queued → Buffers → Buffers
@@ -57,11 +58,6 @@ memories queued = map (λ b. b.held) queued
 -- no buffer is queued
 abbrev pub drained : Buffers → Buffers
 drained q = record q { queued = [] }
-
--- how often a number stands in a list
-abbrev pub occurrences : ℕ → List ℕ → ℕ
-occurrences n [] = 0
-occurrences n (x ∷ xs) = if x == n then occurrences n xs + 1 else occurrences n xs
 
 -- the indices of the buffers that are not at home
 abbrev pub away : Buffers → List ℕ

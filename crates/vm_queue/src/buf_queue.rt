@@ -1,5 +1,5 @@
 ghost use Rattle.std.specs.Prelude.{◌≡◌, ◌+◌, ◌≤◌, ◌↔◌, ◌++◌, [], true, false, length, vec_len, vec_capacity, All, IfOk, IfErr, IfSome, IsErr, OnOk, OnErr};
-ghost use Rattle.vm_queue.specs.Buffers.{all_home, is_home, is_out, pushed, first_of, popped, settled, memories, drained, IsSound};
+ghost use Rattle.vm_queue.specs.Buffers.{all_home, is_home, is_out, pushed, first_queued, popped, settled, memories, drained, IsSound};
 
 use crate::Queued;
 use crate::lists::{give_back, has_index, has_queued, remove};
@@ -74,11 +74,19 @@ impl BufQueue {
         self.count
     }
 
-    /// The length of each buffer, in bytes. Whoever queues a buffer compares its memory's with it.
+    /// The length of each buffer, in bytes. Whoever queues a buffer with memory of the device's own, MMAP, compares the
+    /// memory's length with it. The memory of a user buffer may have any length.
     pub fn length(&self) -> u32
         ensures { result ≡ self.now.length }
     {
         self.length
+    }
+
+    /// How many buffers are queued.
+    pub fn queued(&self) -> u32
+        ensures { result ≡ length self.now.queued }
+    {
+        self.queued.len() as u32
     }
 
     /// Whether there is a buffer with this index, and it is neither queued nor out, so that `push` takes it.
@@ -121,7 +129,7 @@ impl BufQueue {
 
     /// Takes the buffer that is queued first. It is out from then on. None is answered exactly where none is queued.
     pub fn pop(&mut self) -> Option<(BufferRec, Held)>
-        ensures first { result ≡ first_of self.old.queued }
+        ensures first { result ≡ first_queued self.old }
         ensures queue { self.new ≡ popped self.old }
         ensures out { IfSome result (λ first. is_out self.new first.0.index ≡ true) }
     {

@@ -129,7 +129,9 @@ fn drained_buffers_are_at_home_and_made_anew(rt: HostRuntime) -> Result<(), Fail
         let mut queue = queue_of(alloc, &queued)?;
         let mut back = Vec::with_capacity(alloc, MAX_BUFFERS)?;
         assert_eq!(rt; queue.count(), 3);
+        assert_eq!(rt; queue.queued() as usize, count);
         queue.drain(&mut back);
+        assert_eq!(rt; queue.queued(), 0);
         assert_eq!(rt; back.len(), count);
         assert_eq!(rt; back.get(0).map_or(0, tag_of), 100);
         assert_eq!(rt; back.get(1).map_or(0, tag_of), 101);
