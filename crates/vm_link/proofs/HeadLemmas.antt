@@ -4,19 +4,12 @@ use Rattle.std.specs.List.{range_with_len}
 use Rattle.std.proofs.lemmas.Grind.{common_steps}
 use Rattle.std.proofs.lemmas.Bool.{cases_eq}
 use Rattle.std.proofs.lemmas.Bool.Decides.{nat_tests}
-use Rattle.vm_link.specs.PlainQueue.{occurrences}
+use Rattle.vm_mem.specs.Lists.{occurrences}
 
 -- a run of numbers that is longer by one
 pub range_more : (a n : ℕ) → range_with_len a (n + 1) ≡ range_with_len a n ++ (a + n) ∷ []
 range_more a zero = grind (arith, common_steps)
 range_more a (suc n) = grind (arith, common_steps, range_more (a + 1) n)
-
-pub occurrences-append : (n : ℕ) (xs ys : List ℕ) → occurrences n (xs ++ ys) ≡ occurrences n xs + occurrences n ys
-occurrences-append n [] ys = omega arith
-occurrences-append n (x ∷ xs) ys = grind (arith, nat_tests, occurrences-append n xs ys)
-
-pub occurrences-one : (n : ℕ) → occurrences n (n ∷ []) ≡ 1
-occurrences-one n = grind (arith, nat_tests)
 
 -- what stands in a list occurs there
 pub occurs : (n : ℕ) (xs : List ℕ) → Contains xs n → 1 ≤ occurrences n xs

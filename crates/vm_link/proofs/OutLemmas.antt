@@ -5,9 +5,9 @@ use Rattle.std.proofs.lemmas.Bool.Decides.{nat_tests}
 use Rattle.std.proofs.lemmas.List.Elements.{All-head, All-tail}
 use Rattle.std.proofs.lemmas.List.Sums.{sum_by-cons}
 use Rattle.vm_link.specs.declared.chains.OutChain.{OutChain}
-use Rattle.vm_link.specs.PlainQueue.{occurrences}
+use Rattle.vm_mem.specs.Lists.{occurrences}
+use Rattle.vm_mem.proofs.OccurrenceLemmas.{occurrences-one}
 use Rattle.vm_link.specs.Queue.{count_at, without}
-use Rattle.vm_link.proofs.HeadLemmas.{occurrences-one}
 
 abbrev pub heads_in : List OutChain → List ℕ
 heads_in out = map (λ (c : OutChain). c.head) out

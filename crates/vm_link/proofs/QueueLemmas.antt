@@ -11,9 +11,10 @@ use Rattle.vm_link.specs.declared.parcel.Parcel.{Parcel}
 use Rattle.vm_link.specs.declared.parcel.Taken.{Taken}
 use Rattle.vm_link.specs.declared.link.QueueId.{QueueId}
 use Rattle.vm_link.specs.declared.link.QueueId.TheVariants.{Command, Event}
-use Rattle.vm_link.specs.PlainQueue.{occurrences}
+use Rattle.vm_mem.specs.Lists.{occurrences}
+use Rattle.vm_mem.proofs.OccurrenceLemmas.{occurrences-append}
 use Rattle.vm_link.specs.Queue.{Queue, Queues, queue_at, with_queue, used_count, out_heads, done_heads, heads_of, posted, rest_of, taken_as, TakesFirst, Takes, count_at, without, finished, collected}
-use Rattle.vm_link.proofs.HeadLemmas.{absent, occurs, stands, occurrences-append}
+use Rattle.vm_link.proofs.HeadLemmas.{absent, occurs, stands}
 use Rattle.vm_link.proofs.OutLemmas.{count_at-push, without-push, occurrences-without}
 
 -- the queue that was put in a place is there

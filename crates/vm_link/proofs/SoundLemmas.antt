@@ -14,9 +14,11 @@ use Rattle.vm_link.specs.declared.parcel.Finished.{Finished}
 use Rattle.vm_link.specs.declared.parcel.Parcel.{Parcel}
 use Rattle.vm_link.specs.declared.parcel.Taken.{Taken}
 use Rattle.vm_link.specs.Parcel.{IsPostable, homes_of}
-use Rattle.vm_link.specs.PlainQueue.{IsSound, occurrences}
+use Rattle.vm_mem.specs.Lists.{occurrences}
+use Rattle.vm_mem.proofs.OccurrenceLemmas.{occurrences-append, occurrences-one}
+use Rattle.vm_link.specs.PlainQueue.{IsSound}
 use Rattle.vm_link.specs.Queue.{Queue, empty_queue, free_count, used_count, out_heads, done_heads, heads_of, posted, rest_of, TakesFirst, finished, count_at}
-use Rattle.vm_link.proofs.HeadLemmas.{occurrences-append, occurrences-one, occurs, once}
+use Rattle.vm_link.proofs.HeadLemmas.{occurs, once}
 use Rattle.vm_link.proofs.OutLemmas.{length-without, occurrences-moved, counts-without, some_at, length-le-sum}
 
 -- how often a head stands among the free ones and those of the chains

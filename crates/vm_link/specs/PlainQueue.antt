@@ -1,12 +1,8 @@
 -- What a plain queue keeps besides its lists: the heads that no chain has.
-use Rattle.std.specs.Prelude.{ℕ, ◌≡◌, ◌+◌, ◌^◌, ◌<◌, ◌≤◌, ◌==◌, if◌then◌else◌, List, [], ◌∷◌, ◌++◌, length, All}
+use Rattle.std.specs.Prelude.{ℕ, ◌≡◌, ◌+◌, ◌^◌, ◌<◌, ◌≤◌, List, ◌++◌, length, All}
+use Rattle.vm_mem.specs.Lists.{occurrences}
 use Rattle.vm_link.specs.Parcel.{IsPostable}
 use Rattle.vm_link.specs.Queue.{Queue, used_count, heads_of}
-
--- how often a number stands in a list
-abbrev pub occurrences : ℕ → List ℕ → ℕ
-occurrences n [] = 0
-occurrences n (x ∷ xs) = if x == n then occurrences n xs + 1 else occurrences n xs
 
 -- The free heads and those of the chains are as many as the size, and no two alike; the chains fit the size, and each of
 -- them has a descriptor.

@@ -59,10 +59,6 @@ heads_of q = out_heads q ++ done_heads q
 abbrev pub posted : Queue → Parcel → Queue
 posted q parcel = record q { waiting = q.waiting ++ parcel ∷ [] }
 
-abbrev pub first_of : {A : Type 0} → List A → Option A
-first_of [] = None
-first_of (x ∷ xs) = Some x
-
 abbrev pub rest_of : {A : Type 0} → List A → List A
 rest_of [] = []
 rest_of (x ∷ xs) = xs
