@@ -3,8 +3,9 @@ use Rattle.std.proofs.Common.{ℕ, ◌≡◌, ◌≢◌, ◌≤◌, ◌+◌, ◌
 use Rattle.std.proofs.lemmas.Bool.{cases_eq, cases_lt}
 use Rattle.std.proofs.lemmas.Bool.Decides.{nat_tests}
 use Rattle.std.proofs.lemmas.List.{length-take-le, length-drop}
-use Rattle.v4l_const.specs.IoctlCode.{payload_size, ioctl_of}
+use Rattle.v4l_const.specs.IoctlCode.{ioctl_of}
 use Rattle.v4l_const.specs.declared.ioctl_code.IoctlCode.{IoctlCode}
+use Rattle.vm_wire.specs.Payload.{payload_need}
 use Rattle.vm_wire.specs.Wire.{number_at, long_at, is_writable, Spells, sizes_fault, command_fault, command_at, ioctl_fault, ioctl_at, is_cut, brings_entries, IsDecided, judged, judged_by}
 use Rattle.vm_wire.specs.declared.command.Command.{Command}
 use Rattle.vm_wire.specs.declared.command.Command.TheVariants.{OpenSession, CloseSession, Ioctl, Map, Unmap}
@@ -29,10 +30,10 @@ ioctl_spelled : (bytes : List ℕ) (room : ℕ) (o : Option IoctlCode) → ioctl
     → ioctl_fault o bytes room ≡ None → Spells bytes room (ioctl_at o bytes)
 ioctl_spelled bytes room None finds number fine = cc
 ioctl_spelled bytes room (Some code) finds number fine =
-    let fits = passes (is_cut code bytes) room (8 + payload_size code) fine in
-    let size : ℕ = 16 + payload_size code in
-    let whole = whole_of (length bytes) size ((length bytes - size) % 16) (brings_entries code (take (payload_size code) (drop 16 bytes))) fits.0 in
-    let sized : length (take (payload_size code) (drop 16 bytes)) ≡ payload_size code = length-take-le (payload_size code) (drop 16 bytes) (omega (arith, whole.0, length-drop (16) bytes)) in
+    let fits = passes (is_cut code bytes) room (8 + payload_need code (drop 16 bytes)) fine in
+    let size : ℕ = 16 + payload_need code (drop 16 bytes) in
+    let whole = whole_of (length bytes) size ((length bytes - size) % 16) (brings_entries code (take (payload_need code (drop 16 bytes)) (drop 16 bytes))) fits.0 in
+    let sized : length (take (payload_need code (drop 16 bytes)) (drop 16 bytes)) ≡ payload_need code (drop 16 bytes) = length-take-le (payload_need code (drop 16 bytes)) (drop 16 bytes) (omega (arith, whole.0, length-drop (16) bytes)) in
     ((whole.0, number, refl, code_of_number (number_at 12 bytes) code finds, refl, whole.1), omega (arith, sized, fits.1))
 
 -- the first fault where the number of the command is known and there
@@ -131,15 +132,15 @@ spelled bytes room (CloseSession session) s =
     numbered 2 bytes room None (CloseSession session) (omega (arith, s.0.0)) s.0.1 (no_sizes_fault 16 8 bytes room s.0.0 s.1) (ap CloseSession s.0.2)
 spelled bytes room (Ioctl session code payload) s =
     let found : ioctl_of (number_at 12 bytes) ≡ Some code = ap ioctl_of s.0.3 ∙ code_again code in
-    let size : ℕ = 16 + payload_size code in
-    let read : List ℕ = take (payload_size code) (drop 16 bytes) in
-    let sized : length read ≡ payload_size code = length-take-le (payload_size code) (drop 16 bytes) (omega (arith, s.0.0, length-drop 16 bytes)) in
+    let size : ℕ = 16 + payload_need code (drop 16 bytes) in
+    let read : List ℕ = take (payload_need code (drop 16 bytes)) (drop 16 bytes) in
+    let sized : length read ≡ payload_need code (drop 16 bytes) = length-take-le (payload_need code (drop 16 bytes)) (drop 16 bytes) (omega (arith, s.0.0, length-drop 16 bytes)) in
     let B : List ℕ → Type 0 = λ xs. brings_entries code xs ≡ true → (length bytes - size) % 16 ≡ 0 in
     let whole : is_cut code bytes ≡ false = not_cut (length bytes) size ((length bytes - size) % 16) (brings_entries code read) s.0.0 (subst B s.0.4 s.0.5) in
-    let wide : 8 + payload_size code ≤ room = omega (arith, s.1, sized, ap length s.0.4) in
+    let wide : 8 + payload_need code (drop 16 bytes) ≤ room = omega (arith, s.1, sized, ap length s.0.4) in
     let F : Option IoctlCode → Type 0 = λ o. ioctl_fault o bytes room ≡ None in
-    let W : Bool → Type 0 = λ b. (if b then Some Short else (if nat_lt room (8 + payload_size code) then Some Room else None)) ≡ None in
-    let fine : ioctl_fault (ioctl_of (number_at 12 bytes)) bytes room ≡ None = subst F (sym found) (subst W (sym whole) (long_enough room (8 + payload_size code) (Some Room) None wide)) in
+    let W : Bool → Type 0 = λ b. (if b then Some Short else (if nat_lt room (8 + payload_need code (drop 16 bytes)) then Some Room else None)) ≡ None in
+    let fine : ioctl_fault (ioctl_of (number_at 12 bytes)) bytes room ≡ None = subst F (sym found) (subst W (sym whole) (long_enough room (8 + payload_need code (drop 16 bytes)) (Some Room) None wide)) in
     let C : Option IoctlCode → Type 0 = λ o. ioctl_at o bytes ≡ Ioctl session code payload in
     let same : Ioctl (number_at 8 bytes) code read ≡ Ioctl session code payload = ap (λ x. Ioctl x code read) s.0.2 ∙ ap (Ioctl session code) (sym s.0.4) in
     numbered 3 bytes room None (Ioctl session code payload) (omega (arith, s.0.0)) s.0.1
@@ -188,20 +189,20 @@ enough len size long = grind (arith, nat_tests)
 
 -- an IOCTL of `size` bytes that has all its bytes and its room is judged to be it
 pub ioctl_judged : (bytes : List ℕ) (room : ℕ) (code : IoctlCode) (session size : ℕ) (payload : List ℕ) → ioctl_of (number_at 12 bytes) ≡ Some code
-    → size ≡ payload_size code → 16 + size ≤ length bytes → false ≡ (brings_entries code (take (16 + size - 16) (drop 16 bytes)) && not ((length bytes - (16 + size)) % 16 == 0)) → 8 + size ≤ room
+    → size ≡ payload_need code (drop 16 bytes) → 16 + size ≤ length bytes → false ≡ (brings_entries code (take (16 + size - 16) (drop 16 bytes)) && not ((length bytes - (16 + size)) % 16 == 0)) → 8 + size ≤ room
     → session ≡ number_at 8 bytes → payload ≡ take (16 + size - 16) (drop 16 bytes)
     → Ok (Ioctl session code payload) ≡ judged_by (ioctl_fault (ioctl_of (number_at 12 bytes)) bytes room) (ioctl_at (ioctl_of (number_at 12 bytes)) bytes)
 ioctl_judged bytes room code session size payload found sized long whole wide is_session is_payload =
-    let read : List ℕ = take (payload_size code) (drop 16 bytes) in
-    let back : 16 + size - 16 ≡ payload_size code = omega (arith, sized) in
+    let read : List ℕ = take (payload_need code (drop 16 bytes)) (drop 16 bytes) in
+    let back : 16 + size - 16 ≡ payload_need code (drop 16 bytes) = omega (arith, sized) in
     let is_read : payload ≡ read = is_payload ∙ ap (λ n. take n (drop 16 bytes)) back in
     let N : ℕ → Type 0 = λ n. false ≡ (brings_entries code (take n (drop 16 bytes)) && not ((length bytes - (16 + size)) % 16 == 0)) in
     let M : ℕ → Type 0 = λ n. false ≡ (brings_entries code read && not ((length bytes - (16 + n)) % 16 == 0)) in
-    let rest : Bool = brings_entries code read && not ((length bytes - (16 + payload_size code)) % 16 == 0) in
-    let here : nat_lt (length bytes) (16 + payload_size code) ≡ false = enough (length bytes) (16 + payload_size code) (omega (arith, long, sized)) in
+    let rest : Bool = brings_entries code read && not ((length bytes - (16 + payload_need code (drop 16 bytes))) % 16 == 0) in
+    let here : nat_lt (length bytes) (16 + payload_need code (drop 16 bytes)) ≡ false = enough (length bytes) (16 + payload_need code (drop 16 bytes)) (omega (arith, long, sized)) in
     let uncut : is_cut code bytes ≡ false = ap (λ b. b || rest) here ∙ sym (subst M sized (subst N back whole)) in
-    let W : Bool → Type 0 = λ b. (if b then Some Short else (if nat_lt room (8 + payload_size code) then Some Room else None)) ≡ None in
-    let fine : ioctl_fault (Some code) bytes room ≡ None = subst W (sym uncut) (long_enough room (8 + payload_size code) (Some Room) None (omega (arith, wide, sized))) in
+    let W : Bool → Type 0 = λ b. (if b then Some Short else (if nat_lt room (8 + payload_need code (drop 16 bytes)) then Some Room else None)) ≡ None in
+    let fine : ioctl_fault (Some code) bytes room ≡ None = subst W (sym uncut) (long_enough room (8 + payload_need code (drop 16 bytes)) (Some Room) None (omega (arith, wide, sized))) in
     let J : Option IoctlCode → Type 0 = λ o. Ok (Ioctl session code payload) ≡ judged_by (ioctl_fault o bytes room) (ioctl_at o bytes) in
     let same : Ioctl session code payload ≡ Ioctl (number_at 8 bytes) code read = ap (λ x. Ioctl x code payload) is_session ∙ ap (Ioctl (number_at 8 bytes) code) is_read in
     subst J (sym found) (ap Ok same ∙ sym (ap (λ o. judged_by o (ioctl_at (Some code) bytes)) fine))

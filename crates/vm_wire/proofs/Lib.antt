@@ -1,7 +1,9 @@
+pub mod BufferLemmas
 pub mod CodeLemmas
 pub mod DecidedLemmas
 pub mod EventLemmas
 pub mod PaddedLemmas
+pub mod PayloadLemmas
 pub mod RecordLemmas
 pub mod WireLemmas
 pub mod WrittenLemmas

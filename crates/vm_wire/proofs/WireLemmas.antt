@@ -1,32 +1,36 @@
 -- Lemmas on what is written and read again.
-use Rattle.std.proofs.Common.{ℕ, ◌≤◌, ◌%◌, ◌++◌, true, false, List, [], length, take, arith, refl, sym, ap, ◌∙◌, subst, length-append}
+use Rattle.std.proofs.Common.{ℕ, ◌≡◌, ◌≤◌, ◌%◌, ◌++◌, true, false, List, [], length, take, arith, refl, sym, ap, ◌∙◌, subst, length-append}
 use Rattle.std.proofs.lemmas.Bool.Decides.{nat_tests}
 use Rattle.std.proofs.lemmas.List.{take_at, append-nil}
 use Rattle.std.proofs.Math.Seq.{take-length}
 use Rattle.std.proofs.lemmas.Nat.{from_le_bytes-to_le_bytes_4, from_le_bytes-to_le_bytes_8}
-use Rattle.v4l_const.specs.IoctlCode.{payload_size, ioctl_number}
+use Rattle.v4l_const.specs.IoctlCode.{ioctl_number}
 use Rattle.vm_wire.specs.Wire.{command_bytes, reply_size, Spells, IsCommand, MayFollow, response_bytes, Answers, ReadsBack}
+use Rattle.vm_wire.specs.declared.command.TheConstants.{WIRE_ROOM}
 use Rattle.vm_wire.specs.declared.response.Response.{Response}
 use Rattle.vm_wire.specs.declared.response.Response.TheVariants.{Refused, Opened, Closed, Answered, Mapped, Unmapped}
 use Rattle.vm_wire.specs.declared.command.Command.{Command}
 use Rattle.vm_wire.specs.declared.command.Command.TheVariants.{OpenSession, CloseSession, Ioctl, Map, Unmap}
-use Rattle.vm_wire.proofs.CodeLemmas.{code_fits, size_fits}
+use Rattle.vm_wire.specs.Payload.{payload_need}
+use Rattle.vm_wire.proofs.CodeLemmas.{code_fits}
+use Rattle.vm_wire.proofs.PayloadLemmas.{need_before, need_fits}
 
 -- what is written of a command spells it, with what may stand behind it
 pub command_before : (c : Command) (behind : List ℕ) (room : ℕ) → IsCommand c → MayFollow c behind → reply_size c ≤ room → Spells (command_bytes c ++ behind) room c
 command_before OpenSession behind room fits follows enough = ((omega arith, refl), enough)
 command_before (CloseSession session) behind room fits follows enough = ((omega arith, refl, from_le_bytes-to_le_bytes_4 session fits), enough)
-command_before (Ioctl session code payload) behind room fits follows enough = (
-  (
-    omega (arith, fits.1, length-append payload behind),
-    refl,
-    from_le_bytes-to_le_bytes_4 session fits.0,
-    from_le_bytes-to_le_bytes_4 (ioctl_number code) (code_fits code),
-    sym (take_at payload behind (payload_size code) fits.1),
-    λ brings. ap (λ n. n % 16) (omega (arith, fits.1, length-append payload behind)) ∙ follows brings,
-  ),
-  enough,
-)
+command_before (Ioctl session code payload) behind room fits follows enough =
+    let need : payload_need code (payload ++ behind) ≡ length payload = need_before code payload behind fits.1 in (
+      (
+        omega (arith, need, length-append payload behind),
+        refl,
+        from_le_bytes-to_le_bytes_4 session fits.0,
+        from_le_bytes-to_le_bytes_4 (ioctl_number code) (code_fits code),
+        sym (take_at payload behind (payload_need code (payload ++ behind)) (sym need)),
+        λ brings. ap (λ n. n % 16) (omega (arith, need, length-append payload behind)) ∙ follows brings,
+      ),
+      enough,
+    )
 command_before (Map session true offset) behind room fits follows enough =
     ((omega arith, refl, from_le_bytes-to_le_bytes_4 session fits.0, refl, from_le_bytes-to_le_bytes_4 offset fits.1), enough)
 command_before (Map session false offset) behind room fits follows enough =
@@ -47,18 +51,18 @@ command_again c room fits enough =
     subst P (append-nil (command_bytes c)) (command_before c [] room fits (none_follows c) enough)
 
 -- what is written of a command goes into its page
-pub command_fits : (c : Command) → IsCommand c → length (command_bytes c) ≤ 304
+pub command_fits : (c : Command) → IsCommand c → length (command_bytes c) ≤ WIRE_ROOM
 command_fits OpenSession fits = omega arith
 command_fits (CloseSession session) fits = omega arith
-command_fits (Ioctl session code payload) fits = omega (arith, fits.1, size_fits code)
+command_fits (Ioctl session code payload) fits = omega (arith, fits.1, need_fits code payload)
 command_fits (Map session writable offset) fits = omega arith
 command_fits (Unmap addr) fits = omega arith
 
 -- and so does its reply with status 0
-pub room_fits : (c : Command) → IsCommand c → reply_size c ≤ 304
+pub room_fits : (c : Command) → IsCommand c → reply_size c ≤ WIRE_ROOM
 room_fits OpenSession fits = omega arith
 room_fits (CloseSession session) fits = omega arith
-room_fits (Ioctl session code payload) fits = omega (arith, fits.1, size_fits code)
+room_fits (Ioctl session code payload) fits = omega (arith, fits.1, need_fits code payload)
 room_fits (Map session writable offset) fits = omega arith
 room_fits (Unmap addr) fits = omega arith
 

@@ -3,7 +3,7 @@
 -- Source: own, after the sessions of the VIRTIO 1.4 draft's media device.
 use Rattle.std.specs.Prelude.{ℕ, ◌≡◌, ◌≤◌, ◌<◌, ◌+◌, ◌-◌, ◌%◌, ◌^◌, ◌==◌, ◌&&◌, ◌||◌, ◌⊎◌, not, nat_lt, Bool, true, false, Option, Some, None, Result, Ok, Err, List, ◌++◌, length, take, drop, if◌then◌else◌}
 use Rattle.std.specs.Int.{to_le_bytes, from_le_bytes, w32, w64}
-use Rattle.v4l_const.specs.IoctlCode.{ioctl_number, ioctl_of, payload_size}
+use Rattle.v4l_const.specs.IoctlCode.{ioctl_number, ioctl_of}
 use Rattle.v4l_const.specs.declared.ioctl_code.IoctlCode.{IoctlCode}
 use Rattle.v4l_const.specs.declared.ioctl_code.IoctlCode.TheVariants.{QBuf}
 use Rattle.v4l_const.specs.declared.numbers.TheConstants.{MEMORY_USERPTR}
@@ -11,6 +11,7 @@ use Rattle.vm_wire.specs.declared.command.Command.{Command}
 use Rattle.vm_wire.specs.declared.command.Command.TheVariants.{OpenSession, CloseSession, Ioctl, Map, Unmap}
 use Rattle.vm_wire.specs.declared.command.CmdFault.{CmdFault}
 use Rattle.vm_wire.specs.declared.command.CmdFault.TheVariants.{Short, UnknownCmd, UnknownIoctl, Room}
+use Rattle.vm_wire.specs.Payload.{payload_need, HasItsLength}
 use Rattle.vm_wire.specs.declared.response.Response.{Response}
 use Rattle.vm_wire.specs.declared.response.Response.TheVariants.{Refused, Opened, Closed, Answered, Mapped, Unmapped}
 
@@ -67,14 +68,21 @@ response_bytes Unmapped = le 0 ++ pad
 abbrev pub brings_entries : IoctlCode → List ℕ → Bool
 brings_entries code payload = (ioctl_number code == ioctl_number QBuf) && (number_at 60 payload == MEMORY_USERPTR)
 
+-- where the payload of a call ends that begins behind 16 bytes, and the payload
+abbrev pub payload_end : IoctlCode → List ℕ → ℕ
+payload_end code bytes = 16 + payload_need code (drop 16 bytes)
+
+abbrev pub payload_in : IoctlCode → List ℕ → List ℕ
+payload_in code bytes = take (payload_need code (drop 16 bytes)) (drop 16 bytes)
+
 -- The bytes hold the command: pads have any content, and further bytes are free, but for the bytes behind a call that
 -- brings entries, which are whole entries.
 abbrev pub Holds : List ℕ → Command → Type 0
 Holds bytes OpenSession = (8 ≤ length bytes) × (number_at 0 bytes ≡ 1)
 Holds bytes (CloseSession session) = (16 ≤ length bytes) × (number_at 0 bytes ≡ 2) × (number_at 8 bytes ≡ session)
 Holds bytes (Ioctl session code payload) =
-    (16 + payload_size code ≤ length bytes) × (number_at 0 bytes ≡ 3) × (number_at 8 bytes ≡ session) × (number_at 12 bytes ≡ ioctl_number code)
-    × (payload ≡ take (payload_size code) (drop 16 bytes)) × (brings_entries code payload ≡ true → (length bytes - (16 + payload_size code)) % 16 ≡ 0)
+    (payload_end code bytes ≤ length bytes) × (number_at 0 bytes ≡ 3) × (number_at 8 bytes ≡ session) × (number_at 12 bytes ≡ ioctl_number code)
+    × (payload ≡ payload_in code bytes) × (brings_entries code payload ≡ true → (length bytes - payload_end code bytes) % 16 ≡ 0)
 Holds bytes (Map session writable offset) =
     (24 ≤ length bytes) × (number_at 0 bytes ≡ 4) × (number_at 8 bytes ≡ session) × (is_writable (number_at 12 bytes) ≡ writable) × (number_at 16 bytes ≡ offset)
 Holds bytes (Unmap addr) = (16 ≤ length bytes) × (number_at 0 bytes ≡ 5) × (long_at 8 bytes ≡ addr)
@@ -90,13 +98,13 @@ sizes_fault fields reply bytes room = if nat_lt (length bytes) fields then Some 
 -- there are too few bytes for the payload, or the bytes behind it are no whole entries where it brings entries
 abbrev pub is_cut : IoctlCode → List ℕ → Bool
 is_cut code bytes =
-    nat_lt (length bytes) (16 + payload_size code)
-    || (brings_entries code (take (payload_size code) (drop 16 bytes)) && not ((length bytes - (16 + payload_size code)) % 16 == 0))
+    nat_lt (length bytes) (payload_end code bytes)
+    || (brings_entries code (payload_in code bytes) && not ((length bytes - payload_end code bytes) % 16 == 0))
 
 -- the first fault of an IOCTL whose session and code are there
 abbrev pub ioctl_fault : Option IoctlCode → List ℕ → ℕ → Option CmdFault
 ioctl_fault None bytes room = Some UnknownIoctl
-ioctl_fault (Some code) bytes room = if is_cut code bytes then Some Short else (if nat_lt room (8 + payload_size code) then Some Room else None)
+ioctl_fault (Some code) bytes room = if is_cut code bytes then Some Short else (if nat_lt room (8 + payload_need code (drop 16 bytes)) then Some Room else None)
 
 -- the first fault, in this order: a number's bytes, the number, the fields' bytes, the code, the payload's bytes, the room
 abbrev pub command_fault : List ℕ → ℕ → Option CmdFault
@@ -112,7 +120,7 @@ command_fault bytes room =
 -- the IOCTL that bytes with this code are
 abbrev pub ioctl_at : Option IoctlCode → List ℕ → Command
 ioctl_at None bytes = OpenSession
-ioctl_at (Some code) bytes = Ioctl (number_at 8 bytes) code (take (payload_size code) (drop 16 bytes))
+ioctl_at (Some code) bytes = Ioctl (number_at 8 bytes) code (payload_in code bytes)
 
 -- the command that bytes without a fault are
 abbrev pub command_at : List ℕ → Command
@@ -153,11 +161,11 @@ granted (Unmap addr) bytes = Unmapped
 abbrev pub response_of : Command → List ℕ → Response
 response_of c bytes = if number_at 0 bytes == 0 then granted c bytes else Refused (number_at 0 bytes)
 
--- a command's numbers fit into their fields, and its payload has the size of its call's
+-- a command's numbers fit into their fields, and its payload has its length
 abbrev pub IsCommand : Command → Type 0
 IsCommand OpenSession = Unit {0}
 IsCommand (CloseSession session) = session < 2 ^ 32
-IsCommand (Ioctl session code payload) = (session < 2 ^ 32) × (length payload ≡ payload_size code)
+IsCommand (Ioctl session code payload) = (session < 2 ^ 32) × HasItsLength code payload
 IsCommand (Map session writable offset) = (session < 2 ^ 32) × (offset < 2 ^ 32)
 IsCommand (Unmap addr) = addr < 2 ^ 64
 

@@ -1,5 +1,6 @@
 ghost use Rattle.std.specs.Prelude.{◌≡◌, ◌≤◌, ◌%◌, ◌==◌, ◌&&◌, ◌++◌, not, length, drop, IfOk, IfErr};
-ghost use Rattle.v4l_const.specs.IoctlCode.{ioctl_of, payload_size};
+ghost use Rattle.v4l_const.specs.IoctlCode.{ioctl_of};
+ghost use Rattle.vm_wire.specs.Payload.{HasItsLength};
 ghost use Rattle.vm_wire.specs.Wire.{command_bytes, Spells, command_fault, judged, judged_by, ioctl_fault, ioctl_at, number_at, brings_entries, flags_of, le, pad};
 ghost use Rattle.vm_wire.specs.declared.command.Command.{Command};
 ghost use Rattle.vm_wire.specs.declared.command.Command.TheVariants.{Map};
@@ -63,6 +64,11 @@ pub const IOCTL: u32 = 3;
 pub const MMAP: u32 = 4;
 /// The number of the command that takes a mapping away.
 pub const MUNMAP: u32 = 5;
+
+/// The room of a command and of its reply, in bytes: none is longer.
+///
+/// Source: own.
+pub const WIRE_ROOM: usize = 304;
 
 /// Writes a command at the front of `out`, which has room for it, and answers how many bytes it took.
 /// What stands behind stays.
@@ -200,7 +206,7 @@ fn decode_ioctl(b: &[u8], writable: u32) -> Result<Command, CmdFault>
 
 /// Whether the call brings scatter entries and so many bytes behind it aren't whole ones.
 fn is_cut(code: IoctlCode, payload: &[u8], behind: usize) -> bool
-    requires { length payload.now ≡ payload_size code }
+    requires { HasItsLength code payload.now }
     ensures { result ≡ (brings_entries code payload.now && not (behind % 16 == 0)) }
 {
     code == IoctlCode::QBuf && le32(payload, 60) == MEMORY_USERPTR && behind % 16 != 0

@@ -1,5 +1,6 @@
 // Commands, replies and messages against their bytes, worked by hand from the wire's tables, and what bytes are refused for.
 
+mod buffers;
 mod commands;
 mod events;
 mod faults;

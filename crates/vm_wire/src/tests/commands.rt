@@ -2,7 +2,7 @@ ghost use Rattle.std.specs.Prelude.{◌≡◌, ◌≤◌, length};
 ghost use Rattle.vm_wire.specs.Wire.{command_bytes};
 
 use super::{BEHIND, front};
-use crate::{CmdFault, Command, Payload, decode_command, encode_command};
+use crate::{CmdFault, Command, Payload, WIRE_ROOM, decode_command, encode_command};
 use std::test::Fail;
 use v4l_const::IoctlCode;
 
@@ -98,7 +98,7 @@ fn size_of(command: &Command) -> usize
 #[test]
 fn commands_are_written_and_read(rt: HostRuntime) -> Result<(), Fail> {
     for (command, bytes, room) in commands() {
-        let mut out = [BEHIND; 304];
+        let mut out = [BEHIND; WIRE_ROOM];
         assert_eq!(rt; size_of(&command), bytes.len());
         assert_eq!(rt; encode_command(&command, &mut out), bytes.len());
         assert_eq!(rt; front(&out, bytes.len()), bytes);
@@ -109,7 +109,10 @@ fn commands_are_written_and_read(rt: HostRuntime) -> Result<(), Fail> {
         assert_eq!(rt; decode_command(&out, room), Ok(command));
         // With a byte less there are too few, whatever the room is.
         let short = front(bytes, bytes.len() - 1);
-        assert_eq!(rt; decode_command(short, 304), Err(CmdFault::Short));
+        assert_eq!(rt;
+            decode_command(short, WIRE_ROOM as u32),
+            Err(CmdFault::Short)
+        );
         assert_eq!(rt; decode_command(short, 0), Err(CmdFault::Short));
     }
     Ok(())

@@ -1,5 +1,5 @@
 use super::front;
-use crate::{CmdFault, Command, Payload, decode_command};
+use crate::{CmdFault, Command, Payload, WIRE_ROOM, decode_command};
 use std::test::Fail;
 use v4l_const::IoctlCode;
 
@@ -107,7 +107,7 @@ fn too_few_bytes_and_unknown_numbers(rt: HostRuntime) -> Result<(), Fail> {
     ];
     for (bytes, count, fault) in rows {
         // The room comes after all of these.
-        for room in [0, 304] {
+        for room in [0, WIRE_ROOM as u32] {
             assert_eq!(rt; decode_command(front(bytes, count), room), Err(fault));
         }
     }
@@ -119,7 +119,7 @@ fn codes_come_before_payloads(rt: HostRuntime) -> Result<(), Fail> {
     // DQBUF, DQEVENT, and numbers that no call has.
     for code in [1, 3, 17, 89, 92, 255] {
         for count in [16, 17, 224] {
-            for room in [0, 304] {
+            for room in [0, WIRE_ROOM as u32] {
                 assert_eq!(rt;
                     decode_command(front(&ioctl(code), count), room),
                     Err(CmdFault::UnknownIoctl)
@@ -149,7 +149,7 @@ fn codes_come_before_payloads(rt: HostRuntime) -> Result<(), Fail> {
         let there = front(&bytes, 16 + usize::from(size));
         let short = front(&bytes, 15 + usize::from(size));
         for (part, room, fault) in [
-            (short, 304, CmdFault::Short),
+            (short, WIRE_ROOM as u32, CmdFault::Short),
             (short, 0, CmdFault::Short),
             (there, 0, CmdFault::Room),
             (there, 7 + u32::from(size), CmdFault::Room),

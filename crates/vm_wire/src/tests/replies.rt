@@ -2,7 +2,7 @@ ghost use Rattle.std.specs.Prelude.{◌≡◌, ◌≤◌, length};
 ghost use Rattle.vm_wire.specs.Wire.{response_bytes};
 
 use super::{BEHIND, front};
-use crate::{Command, Payload, Response, Short, decode_response, encode_response};
+use crate::{Command, Payload, Response, Short, WIRE_ROOM, decode_response, encode_response};
 use std::test::Fail;
 use v4l_const::IoctlCode;
 
@@ -84,7 +84,7 @@ fn size_of(response: &Response) -> usize
 #[test]
 fn replies_are_written_and_read(rt: HostRuntime) -> Result<(), Fail> {
     for (command, response, bytes) in replies() {
-        let mut out = [BEHIND; 304];
+        let mut out = [BEHIND; WIRE_ROOM];
         assert_eq!(rt; size_of(&response), bytes.len());
         assert_eq!(rt; encode_response(&response, &mut out), bytes.len());
         assert_eq!(rt; front(&out, bytes.len()), bytes);

@@ -1,0 +1,20 @@
+-- What is said over the link, seen without pages, tables or heads.
+use Rattle.std.specs.Prelude.{ℕ, List, Option, Result}
+use Rattle.vm_wire.specs.declared.command.CmdFault.{CmdFault}
+use Rattle.vm_wire.specs.declared.command.Command.{Command}
+
+-- what a chain on the queue of commands asks: nothing that can be answered, since its table has a fault or there is
+-- no room for a status; or else the command that its bytes spell, or their first fault
+pub data Ask : Type 0 where
+  Unusable : Ask
+  Judged : Result Command CmdFault → Ask
+
+-- a chain that waits for the device: who posted it, and what it asks
+pub record Request : Type 0 where
+  pub who : ℕ
+  pub asks : Ask
+
+-- a chain that the device has finished: who posted it, and the bytes that the device wrote
+pub record Reply : Type 0 where
+  pub who : ℕ
+  pub bytes : List ℕ
