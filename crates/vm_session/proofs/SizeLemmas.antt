@@ -3,9 +3,10 @@ use Rattle.std.proofs.Common.{◌≡◌, ℕ, List, [], Option, Some, None, Resu
 use Rattle.v4l_const.specs.declared.errno.Errno.{Errno}
 use Rattle.v4l_const.specs.declared.ioctl_code.IoctlCode.{IoctlCode}
 use Rattle.v4l_const.specs.declared.ioctl_code.IoctlCode.TheVariants.{QueryCap, EnumFmt, GFmt, SFmt, ReqBufs, QueryBuf, QBuf, StreamOn, StreamOff, EnumInput, GInput, SInput, TryFmt, SubscribeEvent, UnsubscribeEvent}
-use Rattle.v4l_const.specs.IoctlCode.{payload_size}
+use Rattle.v4l_rules.specs.Refusals.{first_refusal}
+use Rattle.vm_wire.specs.Payload.{HasItsLength}
 use Rattle.vm_wire.proofs.RecordLemmas.{capability_length, fmt_desc_answer_length, format_answer_length, input_answer_length}
-use Rattle.vm_session.specs.Session.{SessionState, IoctlRow, IoctlAnswer, ioctl_row, ioctl_outcome, outcome_of, refused_or, first_refusal, querycap_row, enumfmt_row, gfmt_row, tryfmt_row, sfmt_row, enuminput_row, ginput_row, sinput_row}
+use Rattle.vm_session.specs.Session.{SessionState, IoctlRow, IoctlAnswer, ioctl_row, ioctl_outcome, outcome_of, refused_or, querycap_row, enumfmt_row, gfmt_row, tryfmt_row, sfmt_row, enuminput_row, ginput_row, sinput_row}
 
 abbrev payload_in : Result IoctlAnswer Errno → List ℕ
 payload_in (Ok a) = a.payload
@@ -20,20 +21,20 @@ sized_row : (r : IoctlRow) (n : ℕ) (a : IoctlAnswer) → length r.payload ≡ 
 sized_row r n a size is = sym (ap (λ p. length p) (payload_of_row (first_refusal r.refusals) _ a is)) ∙ size
 
 pub answer_length : (s : SessionState) (code : IoctlCode) (payload : List ℕ) (a : IoctlAnswer) →
-    ioctl_outcome s code payload ≡ Ok a → length a.payload ≡ payload_size code
+    HasItsLength code payload → ioctl_outcome s code payload ≡ Ok a → length a.payload ≡ length payload
 unfolding querycap_row enumfmt_row gfmt_row tryfmt_row sfmt_row enuminput_row ginput_row sinput_row
-answer_length s QueryCap p a is = sized_row (ioctl_row s QueryCap p) 104 a (capability_length s.model) is
-answer_length s EnumFmt p a is = sized_row (ioctl_row s EnumFmt p) 64 a (fmt_desc_answer_length _ _ _) is
-answer_length s GFmt p a is = sized_row (ioctl_row s GFmt p) 208 a (format_answer_length _ _) is
-answer_length s TryFmt p a is = sized_row (ioctl_row s TryFmt p) 208 a (format_answer_length _ _) is
-answer_length s SFmt p a is = sized_row (ioctl_row s SFmt p) 208 a (format_answer_length _ _) is
-answer_length s EnumInput p a is = sized_row (ioctl_row s EnumInput p) 80 a (input_answer_length _) is
-answer_length s GInput p a is = sized_row (ioctl_row s GInput p) 4 a refl is
-answer_length s SInput p a is = sized_row (ioctl_row s SInput p) 4 a refl is
-answer_length s ReqBufs p a is = cc
-answer_length s QueryBuf p a is = cc
-answer_length s QBuf p a is = cc
-answer_length s StreamOn p a is = cc
-answer_length s StreamOff p a is = cc
-answer_length s SubscribeEvent p a is = cc
-answer_length s UnsubscribeEvent p a is = cc
+answer_length s QueryCap p a sized is = sized_row (ioctl_row s QueryCap p) 104 a (capability_length s.model) is ∙ sym sized
+answer_length s EnumFmt p a sized is = sized_row (ioctl_row s EnumFmt p) 64 a (fmt_desc_answer_length _ _ _) is ∙ sym sized
+answer_length s GFmt p a sized is = sized_row (ioctl_row s GFmt p) 208 a (format_answer_length _ _) is ∙ sym sized
+answer_length s TryFmt p a sized is = sized_row (ioctl_row s TryFmt p) 208 a (format_answer_length _ _) is ∙ sym sized
+answer_length s SFmt p a sized is = sized_row (ioctl_row s SFmt p) 208 a (format_answer_length _ _) is ∙ sym sized
+answer_length s EnumInput p a sized is = sized_row (ioctl_row s EnumInput p) 80 a (input_answer_length _) is ∙ sym sized
+answer_length s GInput p a sized is = sized_row (ioctl_row s GInput p) 4 a refl is ∙ sym sized
+answer_length s SInput p a sized is = sized_row (ioctl_row s SInput p) 4 a refl is ∙ sym sized
+answer_length s ReqBufs p a sized is = cc
+answer_length s QueryBuf p a sized is = cc
+answer_length s QBuf p a sized is = cc
+answer_length s StreamOn p a sized is = cc
+answer_length s StreamOff p a sized is = cc
+answer_length s SubscribeEvent p a sized is = cc
+answer_length s UnsubscribeEvent p a sized is = cc

@@ -1,18 +1,18 @@
 -- A session of the device: its state in plain lists and numbers, and what it answers to the calls that are sent to it.
 -- What they do is this project's own, after the Linux V4L2 interface.
-use Rattle.std.specs.Prelude.{ℕ, Bool, true, false, not, List, [], ◌∷◌, map, length, ◌+◌, ◌==◌, nat_lt, if◌then◌else◌, slice_index_or, slice_set, Option, Some, None, Result, Ok, Err}
+use Rattle.std.specs.Prelude.{ℕ, Bool, true, not, List, [], ◌∷◌, length, nat_lt, slice_index_or, Option, Some, None, Result, Ok, Err}
 use Rattle.v4l_const.specs.declared.errno.Errno.{Errno}
-use Rattle.v4l_const.specs.declared.errno.Errno.TheVariants.{Einval, Enotty}
+use Rattle.v4l_const.specs.declared.errno.Errno.TheVariants.{Einval, Enotty, Eopnotsupp}
 use Rattle.v4l_const.specs.declared.four_cc.FourCc.{FourCc}
 use Rattle.v4l_const.specs.declared.ioctl_code.IoctlCode.{IoctlCode}
 use Rattle.v4l_const.specs.declared.ioctl_code.IoctlCode.TheVariants.{QueryCap, EnumFmt, GFmt, SFmt, TryFmt, EnumInput, GInput, SInput}
 use Rattle.v4l_const.specs.declared.model.Model.{Model}
-use Rattle.v4l_const.specs.Model.{queues as types_of, source_queue, picture_queue, has_inputs}
 use Rattle.v4l_format.specs.declared.fmt.Fmt.{Fmt}
-use Rattle.v4l_format.specs.Fmt.{adjusted}
 use Rattle.v4l_format.specs.FormatRow.{formats_of, grey}
-use Rattle.v4l_format.specs.Pattern.{patterns}
 use Rattle.v4l_layout.specs.Records.{capability_bytes, fmtdesc_bytes, format_bytes, input_bytes}
+use Rattle.v4l_rules.specs.Formats.{first_format, taken_format, with_set_format_at}
+use Rattle.v4l_rules.specs.Queues.{QueueKind, opening_queues, queue_at}
+use Rattle.v4l_rules.specs.Refusals.{first_refusal, no_type, no_inputs, no_input}
 use Rattle.vm_wire.specs.Records.{capability_of, fmt_desc_answer, format_answer, input_answer}
 use Rattle.vm_wire.specs.Wire.{le, number_at}
 
@@ -31,65 +31,28 @@ pub record SessionState : Type 0 where
   -- the queues of the model, in its order
   pub queues : List SessionQueue
 
--- GREY 64 by 48, the format that a queue begins with
-abbrev pub first_format : Fmt
-first_format = record { code = grey.code; width = 64; height = 48 }
-
 abbrev pub opening_queue : SessionQueue
 opening_queue = record { format = first_format }
 
+-- what the rules of models and formats ask of a queue
+abbrev pub queue_kind : QueueKind SessionQueue
+queue_kind = record { opening = opening_queue; format = λ q. q.format; reformatted = λ q f. record q { format = f } }
+
 -- a session as it is opened
 abbrev pub opening_session : Model → ℕ → SessionState
-opening_session m id = record { model = m; id = id; input = 0; queues = map (λ _. opening_queue) (types_of m) }
+opening_session m id = record { model = m; id = id; input = 0; queues = opening_queues queue_kind m }
 
 -- ---- the queue of a buffer type
 
--- the place of a buffer type among those of a model; behind them all where the model doesn't have it
-abbrev pub place_in : List ℕ → ℕ → ℕ
-place_in [] t = 0
-place_in (u ∷ us) t = if u == t then 0 else place_in us t + 1
-
--- whether the model has this buffer type
-abbrev pub has_type : SessionState → ℕ → Bool
-has_type s t = nat_lt (place_in (types_of s.model) t) (length (types_of s.model))
-
 abbrev pub queue_of : SessionState → ℕ → SessionQueue
-queue_of s t = slice_index_or s.queues (place_in (types_of s.model) t) opening_queue
-
--- the state with another queue of this type
-abbrev pub with_queue : SessionState → ℕ → SessionQueue → SessionState
-with_queue s t q = record s { queues = slice_set s.queues (place_in (types_of s.model) t) q }
-
--- ---- formats
-
--- a format with the size of another
-abbrev pub sized_as : Fmt → Fmt → Fmt
-sized_as size f = record { code = f.code; width = size.width; height = size.height }
-
--- a picture that is made from a source picture has its size, whatever is asked for
-abbrev pub adjusted_from : Option ℕ → SessionState → ℕ → FourCc → ℕ → ℕ → Fmt
-adjusted_from None s t f w h = adjusted f w h
-adjusted_from (Some source) s t f w h =
-    if t == picture_queue s.model then sized_as (queue_of s source).format (adjusted f w h) else adjusted f w h
+queue_of s t = queue_at queue_kind s.model s.queues t
 
 -- the format that a queue takes where it is asked for this one
 abbrev pub adjusted_for : SessionState → ℕ → FourCc → ℕ → ℕ → Fmt
-adjusted_for s t f w h = adjusted_from (source_queue s.model) s t f w h
+adjusted_for s t f w h = taken_format queue_kind s.model s.queues t f w h
 
-abbrev pub with_format : SessionState → ℕ → Fmt → SessionState
-with_format s t f = with_queue s t (record (queue_of s t) { format = f })
-
--- the queue whose buffers the device reads
-abbrev pub is_source : Option ℕ → ℕ → Bool
-is_source None t = false
-is_source (Some source) t = source == t
-
--- a source's new format gives the pictures made from it their size
-unfoldable pub with_set_format : SessionState → ℕ → Fmt → SessionState
-with_set_format s t f =
-    if is_source (source_queue s.model) t then
-    with_format (with_format s t f) (picture_queue s.model) (sized_as f (queue_of s (picture_queue s.model)).format)
-    else with_format s t f
+abbrev pub with_set_format : SessionState → ℕ → Fmt → SessionState
+with_set_format s t f = record s { queues = with_set_format_at queue_kind s.model s.queues t f }
 
 -- ---- the table of calls
 
@@ -103,49 +66,39 @@ pub record IoctlRow : Type 0 where
 abbrev pub row : List (Bool × Errno) → List ℕ → SessionState → IoctlRow
 row refusals payload next = record { refusals = refusals; payload = payload; next = next }
 
--- t is no type of the model
-abbrev pub no_type : SessionState → ℕ → Bool × Errno
-no_type s t = (not (has_type s t), Einval)
-
-abbrev pub no_inputs : SessionState → Bool × Errno
-no_inputs s = (not (has_inputs s.model), Enotty)
-
-abbrev pub no_input : ℕ → Bool × Errno
-no_input i = (not (nat_lt i (length patterns)), Einval)
-
 unfoldable pub querycap_row : SessionState → IoctlRow
 querycap_row s = row [] (capability_bytes (capability_of s.model)) s
 
 unfoldable pub enumfmt_row : SessionState → ℕ → ℕ → IoctlRow
 enumfmt_row s t i =
     row
-    (no_type s t ∷ (not (nat_lt i (length (formats_of s.model))), Einval) ∷ [])
+    (no_type s.model t ∷ (not (nat_lt i (length (formats_of s.model))), Einval) ∷ [])
     (fmtdesc_bytes (fmt_desc_answer t i (slice_index_or (formats_of s.model) i grey).code)) s
 
 unfoldable pub gfmt_row : SessionState → ℕ → IoctlRow
-gfmt_row s t = row (no_type s t ∷ []) (format_bytes (format_answer t (queue_of s t).format)) s
+gfmt_row s t = row (no_type s.model t ∷ []) (format_bytes (format_answer t (queue_of s t).format)) s
 
 unfoldable pub tryfmt_row : SessionState → ℕ → FourCc → ℕ → ℕ → IoctlRow
-tryfmt_row s t f w h = row (no_type s t ∷ []) (format_bytes (format_answer t (adjusted_for s t f w h))) s
+tryfmt_row s t f w h = row (no_type s.model t ∷ []) (format_bytes (format_answer t (adjusted_for s t f w h))) s
 
 unfoldable pub sfmt_row : SessionState → ℕ → FourCc → ℕ → ℕ → IoctlRow
 sfmt_row s t f w h =
     row
-    (no_type s t ∷ [])
+    (no_type s.model t ∷ [])
     (format_bytes (format_answer t (adjusted_for s t f w h))) (with_set_format s t (adjusted_for s t f w h))
 
 unfoldable pub enuminput_row : SessionState → ℕ → IoctlRow
-enuminput_row s i = row (no_inputs s ∷ no_input i ∷ []) (input_bytes (input_answer i)) s
+enuminput_row s i = row (no_inputs s.model ∷ no_input i ∷ []) (input_bytes (input_answer i)) s
 
 unfoldable pub ginput_row : SessionState → IoctlRow
-ginput_row s = row (no_inputs s ∷ []) (le s.input) s
+ginput_row s = row (no_inputs s.model ∷ []) (le s.input) s
 
 unfoldable pub sinput_row : SessionState → ℕ → IoctlRow
-sinput_row s i = row (no_inputs s ∷ no_input i ∷ []) (le i) (record s { input = i })
+sinput_row s i = row (no_inputs s.model ∷ no_input i ∷ []) (le i) (record s { input = i })
 
--- a call that isn't built is refused
+-- a call that the device doesn't have yet is refused
 abbrev pub unbuilt_row : SessionState → IoctlRow
-unbuilt_row s = row ((true, Enotty) ∷ []) [] s
+unbuilt_row s = row ((true, Eopnotsupp) ∷ []) [] s
 
 -- the code of a format at a place of a payload
 abbrev pub code_at : ℕ → List ℕ → FourCc
@@ -171,11 +124,6 @@ ioctl_row s code p = unbuilt_row s
 pub record IoctlAnswer : Type 0 where
   pub payload : List ℕ
   pub next : SessionState
-
--- the first refusal that applies
-abbrev pub first_refusal : List (Bool × Errno) → Option Errno
-first_refusal [] = None
-first_refusal (r ∷ rs) = if r.0 then Some r.1 else first_refusal rs
 
 abbrev pub refused_or : {A : Type 0} → Option Errno → A → Result A Errno
 refused_or None a = Ok a

@@ -1,7 +1,7 @@
 // The calls of a session.
 
 ghost use Rattle.std.specs.Prelude.{◌≡◌, length, IfOk, IfErr, OnOk, OnErr, Ok, Err};
-ghost use Rattle.v4l_const.specs.IoctlCode.{payload_size};
+ghost use Rattle.vm_wire.specs.Payload.{HasItsLength};
 ghost use Rattle.vm_session.specs.Session.{ioctl_outcome};
 
 use crate::Session;
@@ -15,11 +15,11 @@ impl Session {
     ///
     /// # Errors
     /// The first refusal of the call that applies. A refused call changes nothing. Calls on buffers and events aren't
-    /// built yet and are refused with `ENOTTY`.
+    /// there yet and are refused with `EOPNOTSUPP`.
     ///
     /// Source: own, after the Linux V4L2 interface.
     pub fn ioctl(&mut self, code: IoctlCode, payload: &mut Payload) -> Result<(), Errno>
-        requires payload { length payload.old ≡ payload_size code }
+        requires payload { HasItsLength code payload.old }
         ensures ok { OnOk result (ioctl_outcome self.old code payload.old ≡ Ok (record { payload = payload.new; next = self.new })) }
         ensures err { IfErr result (λ e. ioctl_outcome self.old code payload.old ≡ Err e) }
         ensures session_kept { OnErr result (self.new ≡ self.old) }
@@ -33,11 +33,11 @@ impl Session {
 
     /// Does a call, and gives the payload that answers it.
     fn answer(&mut self, code: IoctlCode, request: &Payload) -> Result<Payload, Errno>
-        requires { length request.now ≡ payload_size code }
+        requires { HasItsLength code request.now }
         ensures ok { IfOk result (λ payload. ioctl_outcome self.old code request.now ≡ Ok (record { payload = payload; next = self.new })) }
         ensures err { IfErr result (λ e. ioctl_outcome self.old code request.now ≡ Err e) }
         ensures kept { OnErr result (self.new ≡ self.old) }
-        ensures size { IfOk result (λ payload. length payload ≡ payload_size code) }
+        ensures size { IfOk result (λ payload. length payload ≡ length request.now) }
     {
         match code {
             IoctlCode::QueryCap => Ok(self.querycap()),
@@ -73,7 +73,7 @@ impl Session {
             | IoctlCode::StreamOn
             | IoctlCode::StreamOff
             | IoctlCode::SubscribeEvent
-            | IoctlCode::UnsubscribeEvent => Err(Errno::Enotty),
+            | IoctlCode::UnsubscribeEvent => Err(Errno::Eopnotsupp),
         }
     }
 }

@@ -1,15 +1,16 @@
 // What a session answers to the calls on the device and on formats.
 
-ghost use Rattle.std.specs.Prelude.{◌≡◌, IfOk, IfErr, OnErr, Ok, Err, length};
+ghost use Rattle.std.specs.Prelude.{◌≡◌, IfOk, IfErr, IfSome, OnErr, Ok, Err, length};
 ghost use Rattle.v4l_format.specs.Fmt.{IsAdjusted};
 ghost use Rattle.v4l_layout.specs.Records.{capability_size, fmtdesc_size, format_size};
-ghost use Rattle.vm_session.specs.Session.{adjusted_for, sized_as, is_source, with_format, with_set_format, querycap_row, enumfmt_row, gfmt_row, tryfmt_row, sfmt_row, outcome_of};
+ghost use Rattle.v4l_rules.specs.Formats.{source_format, with_format_at};
+ghost use Rattle.vm_session.specs.Session.{queue_kind, adjusted_for, with_set_format, querycap_row, enumfmt_row, gfmt_row, tryfmt_row, sfmt_row, outcome_of};
 
 use crate::Session;
 use crate::queue::set_format_at;
-use crate::session::place_in;
 use v4l_const::{Errno, FourCc};
-use v4l_format::{Fmt, adjust, nth_format};
+use v4l_format::{Fmt, nth_format};
+use v4l_rules::{adjust_from, is_source, place_in, sized_as};
 use vm_wire::{
     Payload, capability_of, capability_payload, fmt_desc_answer, fmtdesc_payload, format_answer,
     format_payload,
@@ -81,24 +82,28 @@ impl Session {
         ensures value { result ≡ adjusted_for self.now t f w h }
         ensures adjusted { IsAdjusted result }
     {
-        let adjusted = adjust(f, w, h);
+        adjust_from(self.source_format(), self.model, t, f, w, h)
+    }
+
+    /// The format of the source queue, where the model has one.
+    fn source_format(&self) -> Option<Fmt>
+        ensures value { result ≡ source_format queue_kind self.now.model self.now.queues }
+        ensures adjusted { IfSome result IsAdjusted }
+    {
         match self.model.source_queue() {
-            Some(source) if t == self.model.picture_queue() => sized_as(
-                &self.format_of(source),
-                &adjusted,
-            ),
-            _ => adjusted,
+            Some(source) => Some(self.format_of(source)),
+            None => None,
         }
     }
 
     /// Sets the format of the queue of type `t`. Where the device makes its pictures from that queue's, they get
     /// its size.
-    #[tactic(auto, unfolding(crate::specs::Session::with_set_format))]
+    #[tactic(auto, unfolding(v4l_rules::specs::Formats::with_set_format_at))]
     fn set_format(&mut self, t: u32, format: Fmt)
         requires { IsAdjusted format }
         ensures { self.new ≡ with_set_format self.old t format }
     {
-        if is_source(self.model.source_queue(), t) {
+        if is_source(self.model, t) {
             let pictures = self.model.picture_queue();
             let sized = sized_as(&format, &self.format_of(pictures));
             self.put_format(t, format);
@@ -111,33 +116,9 @@ impl Session {
     /// Sets the format of the queue of type `t` alone.
     fn put_format(&mut self, t: u32, format: Fmt)
         requires { IsAdjusted format }
-        ensures { self.new ≡ with_format self.old t format }
+        ensures { self.new ≡ record self.old { queues = with_format_at queue_kind self.old.model self.old.queues t format } }
     {
         let place = place_in(self.model.queues(), t);
         set_format_at(&mut self.queues, place, format);
-    }
-}
-
-/// Whether the device reads the queue of type `t`.
-fn is_source(source: Option<u32>, t: u32) -> bool
-    ensures { result ≡ is_source source t }
-{
-    match source {
-        Some(kind) => kind == t,
-        None => false,
-    }
-}
-
-/// A format with the size of another.
-fn sized_as(size: &Fmt, f: &Fmt) -> Fmt
-    requires size { IsAdjusted size.now }
-    requires adjusted { IsAdjusted f.now }
-    ensures value { result ≡ sized_as size.now f.now }
-    ensures adjusted { IsAdjusted result }
-{
-    Fmt {
-        code: f.code,
-        width: size.width,
-        height: size.height,
     }
 }

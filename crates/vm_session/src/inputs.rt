@@ -4,14 +4,12 @@ ghost use Rattle.std.specs.Prelude.{◌≡◌, true, false, [], ◌∷◌, Some,
 ghost use Rattle.v4l_const.specs.declared.errno.Errno.{Errno};
 ghost use Rattle.v4l_const.specs.Model.{has_inputs};
 ghost use Rattle.v4l_layout.specs.Records.{input_size};
-ghost use Rattle.vm_session.specs.Session.{no_inputs, no_input, first_refusal, enuminput_row, ginput_row, sinput_row, outcome_of};
+ghost use Rattle.v4l_rules.specs.Refusals.{first_refusal, no_inputs, no_input};
+ghost use Rattle.vm_session.specs.Session.{enuminput_row, ginput_row, sinput_row, outcome_of};
 
 use crate::Session;
-use v4l_const::Errno;
+use v4l_const::{Errno, INPUT_COUNT};
 use vm_wire::{Payload, input_answer, input_payload, number_payload};
-
-/// How many inputs a device with inputs has.
-const INPUT_COUNT: u32 = 4;
 
 impl Session {
     /// The input in place `i`.
@@ -63,8 +61,8 @@ impl Session {
 
     /// Refuses an input that the model doesn't have.
     fn check_input(&self, i: u32) -> Result<(), Errno>
-        ensures ok { OnOk result (first_refusal (no_inputs self.now ∷ no_input i ∷ []) ≡ None) }
-        ensures err { IfErr result (λ e. first_refusal (no_inputs self.now ∷ no_input i ∷ []) ≡ Some e) }
+        ensures ok { OnOk result (first_refusal (no_inputs self.now.model ∷ no_input i ∷ []) ≡ None) }
+        ensures err { IfErr result (λ e. first_refusal (no_inputs self.now.model ∷ no_input i ∷ []) ≡ Some e) }
     {
         match self.check_inputs() {
             Ok(()) if i >= INPUT_COUNT => Err(Errno::Einval),

@@ -3,8 +3,8 @@
 ghost use Rattle.std.specs.Prelude.{◌≡◌, ◌<◌, ◌^◌, ℕ, Ok, List, length};
 ghost use Rattle.v4l_const.specs.declared.four_cc.FourCc.{FourCc};
 ghost use Rattle.v4l_const.specs.declared.ioctl_code.IoctlCode.{IoctlCode};
-ghost use Rattle.v4l_const.specs.IoctlCode.{payload_size};
 ghost use Rattle.v4l_layout.specs.Records.{fmtdesc_bytes, format_bytes, input_bytes};
+ghost use Rattle.vm_wire.specs.Payload.{HasItsLength};
 ghost use Rattle.vm_wire.specs.Records.{fmt_desc_request, format_request, format_type_request, input_request};
 ghost use Rattle.vm_wire.specs.Wire.{le};
 ghost use Rattle.vm_session.specs.Session.{SessionState, IoctlAnswer, ioctl_row, ioctl_outcome, enumfmt_row, gfmt_row, tryfmt_row, sfmt_row, enuminput_row, sinput_row};
@@ -28,5 +28,5 @@ pub fn requests_are_read()
 /// The answer to a call has as many bytes as its request.
 pub fn answers_have_the_size_of_requests()
     ensures { (s : SessionState) (code : IoctlCode) (payload : List ℕ) (a : IoctlAnswer) →
-        ioctl_outcome s code payload ≡ Ok a → length a.payload ≡ payload_size code }
+        HasItsLength code payload → ioctl_outcome s code payload ≡ Ok a → length a.payload ≡ length payload }
 {}

@@ -1,29 +1,12 @@
 ghost use Rattle.std.specs.Prelude.{◌≡◌, replicate, slice_index_or, slice_set, IfOk};
 ghost use Rattle.v4l_format.specs.Fmt.{IsAdjusted};
-ghost use Rattle.vm_session.specs.Session.{first_format, opening_queue};
+ghost use Rattle.vm_session.specs.Session.{opening_queue};
 
 use std::alloc::Global;
 use std::marker::Model;
-use v4l_const::FourCc;
 use v4l_format::Fmt;
+use v4l_rules::first_format;
 use vm_mem::Memory;
-
-/// GREY 64 by 48, the format that a queue begins with.
-///
-/// Source: own.
-const FIRST_FORMAT: Fmt = Fmt {
-    code: FourCc(0x5945_5247),
-    width: 64,
-    height: 48,
-};
-
-/// The format that a queue begins with, which is an adjusted one.
-fn first_format() -> Fmt
-    ensures value { result ≡ first_format }
-    ensures adjusted { IsAdjusted result }
-{
-    FIRST_FORMAT
-}
 
 /// One queue of a session.
 #[derive(Drop)]

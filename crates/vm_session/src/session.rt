@@ -1,13 +1,15 @@
 ghost use Rattle.std.specs.Prelude.{◌≡◌, true, false, IfOk, IfErr, OnOk};
 ghost use Rattle.v4l_const.specs.declared.errno.Errno.{Errno};
 ghost use Rattle.v4l_format.specs.Fmt.{IsAdjusted};
-ghost use Rattle.vm_session.specs.Session.{opening_session, place_in, has_type, queue_of};
+ghost use Rattle.v4l_rules.specs.Queues.{has_type};
+ghost use Rattle.vm_session.specs.Session.{opening_session, queue_of};
 
 use crate::queue::{Queue, format_at, opening_queues};
 use std::alloc::Global;
 use std::marker::Model;
 use v4l_const::Errno;
 use v4l_format::Fmt;
+use v4l_rules::place_in;
 use vm_mem::Memory;
 
 /// What the device keeps for one open handle of a guest.
@@ -52,8 +54,8 @@ impl Session {
 
     /// Refuses a buffer type that the model doesn't have.
     pub(crate) fn check_type(&self, t: u32) -> Result<(), Errno>
-        ensures ok { OnOk result (has_type self.now t ≡ true) }
-        ensures err { IfErr result (λ e. (e ≡ Errno.Einval) × (has_type self.now t ≡ false)) }
+        ensures ok { OnOk result (has_type self.now.model t ≡ true) }
+        ensures err { IfErr result (λ e. (e ≡ Errno.Einval) × (has_type self.now.model t ≡ false)) }
     {
         let types = self.model.queues();
         if place_in(types, t) < types.len() {
@@ -70,16 +72,4 @@ impl Session {
     {
         format_at(&self.queues, place_in(self.model.queues(), t))
     }
-}
-
-/// The place of a buffer type, behind them all where it is none of them.
-pub(crate) fn place_in(types: &[u32], t: u32) -> usize
-    ensures { result ≡ place_in types.now t }
-{
-    for (place, kind) in types.iter().enumerate() {
-        if *kind == t {
-            return place;
-        }
-    }
-    types.len()
 }

@@ -235,7 +235,7 @@ fn bytes_are_read_at_their_offsets(rt: HostRuntime) -> Result<(), Fail> {
     ]);
     want[20..32].copy_from_slice(&[1, 0, 0, 0, 128, 2, 0, 0, 0, 40, 0, 0]);
     assert_eq!(rt; payload, Payload::new(&want));
-    // A refused call leaves the payload as it was, and so does one that isn't built.
+    // A refused call leaves the payload as it was, and so does one that isn't there yet.
     let mut number = number_payload(4);
     assert_eq!(rt;
         session.ioctl(IoctlCode::SInput, &mut number),
@@ -243,7 +243,7 @@ fn bytes_are_read_at_their_offsets(rt: HostRuntime) -> Result<(), Fail> {
     );
     assert_eq!(rt;
         session.ioctl(IoctlCode::StreamOn, &mut number),
-        Err(Errno::Enotty)
+        Err(Errno::Eopnotsupp)
     );
     assert_eq!(rt; number, number_payload(4));
     Ok(())
