@@ -1,19 +1,18 @@
 -- Lemmas on what the device answers.
-use Rattle.std.proofs.Common.{◌≡◌, ℕ, true, false, Option, Some, None, is_some, IfSome, Result, Ok, Err, List, [], ◌∷◌, ◌++◌, length, get_or, set, refl, sym, ap, ◌∙◌, subst, if◌then◌else◌}
+use Rattle.std.proofs.Common.{◌≡◌, ℕ, true, Option, Some, None, is_some, IfSome, Result, Ok, Err, List, [], ◌∷◌, ◌++◌, length, get_or, set, refl, sym, ap, ◌∙◌, subst}
 use Rattle.std.proofs.lemmas.List.{length-map}
 use Rattle.slab.specs.Slab.{Slab, get, Updates}
 use Rattle.v4l_const.specs.declared.errno.Errno.{Errno}
-use Rattle.v4l_const.specs.Model.{source_queue, picture_queue}
 use Rattle.v4l_const.specs.declared.ioctl_code.IoctlCode.{IoctlCode}
 use Rattle.v4l_const.specs.declared.ioctl_code.IoctlCode.TheVariants.{QueryCap, EnumFmt, GFmt, SFmt, TryFmt, EnumInput, GInput, SInput}
-use Rattle.v4l_format.specs.declared.fmt.Fmt.{Fmt}
 use Rattle.v4l_const.specs.declared.model.Model.{Model}
 use Rattle.vm_wire.specs.declared.command.Command.TheVariants.{OpenSession, CloseSession, Ioctl}
 use Rattle.vm_wire.specs.declared.response.Response.TheVariants.{Opened, Closed}
+use Rattle.v4l_rules.specs.Refusals.{first_refusal}
 use Rattle.vm_session.specs.declared.session.Session.{Session}
-use Rattle.vm_session.specs.Session.{IoctlAnswer, IoctlRow, opening_session, ioctl_row, ioctl_outcome, first_refusal, refused_or, with_format, with_set_format, is_source, querycap_row, enumfmt_row, gfmt_row, tryfmt_row, sfmt_row, enuminput_row, ginput_row, sinput_row, sized_as, queue_of}
+use Rattle.vm_session.specs.Session.{IoctlAnswer, IoctlRow, opening_session, ioctl_row, ioctl_outcome, refused_or, querycap_row, enumfmt_row, gfmt_row, tryfmt_row, sfmt_row, enuminput_row, ginput_row, sinput_row}
 use Rattle.vm_host.specs.Sessions.{HostState, session_at, sessions_at, HasId, HasEachSession}
-use Rattle.vm_host.specs.Host.{performed, is_built, Calls, called, reply_to}
+use Rattle.vm_host.specs.Host.{performed, Calls, called, reply_to}
 use Rattle.vm_host.proofs.SessionLemmas.{opened, changed, changed_each, closed, found_at, found_within, leads_to, live_where}
 
 -- the device by its fields
@@ -59,17 +58,13 @@ called_by model opens old new keys key id (Err errno) payload payload' result ea
 
 -- the answer to a call in a live session
 pub called_answer : (model : Model) (opens : ℕ) (old new : Slab Session) (keys : List (Option ℕ)) (key id : ℕ) (s : Session) (code : IoctlCode) (payload payload' : List ℕ) (result : Result (Unit {0}) Errno)
-    → HasEachSession old keys → get_or keys id None ≡ Some key → get old key ≡ Some s → is_built code ≡ true → Calls old new key (ioctl_outcome s code payload) payload payload' result
+    → HasEachSession old keys → get_or keys id None ≡ Some key → get old key ≡ Some s → Calls old new key (ioctl_outcome s code payload) payload payload' result
     → performed true (device model opens old keys) (Ioctl id code payload) ≡ record { response = reply_to result payload'; host = device model opens new keys }
-called_answer model opens old new keys key id s code payload payload' result each stands there built calls =
+called_answer model opens old new keys key id s code payload payload' result each stands there calls =
     let live : get_or (sessions_at old keys) id None ≡ Some s = found_at old keys key id stands ∙ there in
-    rw (live, built) (called_by model opens old new keys key id (ioctl_outcome s code payload) payload payload' result each stands calls)
+    rw live (called_by model opens old new keys key id (ioctl_outcome s code payload) payload payload' result each stands calls)
 
 -- ---- a session that is called keeps its id
-
-set_id : (s : Session) (t : ℕ) (f : Fmt) → (with_set_format s t f).id ≡ s.id
-unfolding with_set_format
-set_id s t f = elim (is_source (source_queue s.model) t) as (λ b. (if b then with_format (with_format s t f) (picture_queue s.model) (sized_as f (queue_of s (picture_queue s.model)).format) else with_format s t f).id ≡ s.id) [ true ↦ refl | false ↦ refl ]
 
 next_id : (s : Session) (code : IoctlCode) (payload : List ℕ) → (ioctl_row s code payload).next.id ≡ s.id
 unfolding querycap_row enumfmt_row gfmt_row tryfmt_row sfmt_row enuminput_row ginput_row sinput_row
@@ -77,7 +72,7 @@ next_id s QueryCap payload = refl
 next_id s EnumFmt payload = refl
 next_id s GFmt payload = refl
 next_id s TryFmt payload = refl
-next_id s SFmt payload = set_id s _ _
+next_id s SFmt payload = refl
 next_id s EnumInput payload = refl
 next_id s GInput payload = refl
 next_id s SInput payload = refl

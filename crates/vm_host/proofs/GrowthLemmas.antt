@@ -2,7 +2,7 @@
 use Rattle.std.proofs.Common.{◌≡◌, ℕ, ◌≤◌, ◌+◌, Bool, true, false, Option, Some, None, is_some, Result, Ok, Err, List, [], ◌∷◌, length, if◌then◌else◌, nat_lt, refl, sym, subst, arith}
 use Rattle.std.proofs.lemmas.List.{length-set, length-append}
 use Rattle.v4l_const.specs.declared.errno.Errno.{Errno}
-use Rattle.v4l_const.specs.declared.errno.Errno.TheVariants.{Ebadf, Eopnotsupp}
+use Rattle.v4l_const.specs.declared.errno.Errno.TheVariants.{Ebadf}
 use Rattle.v4l_const.specs.declared.ioctl_code.IoctlCode.{IoctlCode}
 use Rattle.vm_chain.specs.Chain.{writable_bytes}
 use Rattle.vm_chain.specs.declared.desc.Desc.{Desc}
@@ -17,7 +17,7 @@ use Rattle.vm_wire.specs.declared.command.Command.TheVariants.{OpenSession, Clos
 use Rattle.vm_wire.specs.declared.command.CmdFault.{CmdFault}
 use Rattle.vm_wire.specs.declared.response.Response.TheVariants.{Closed}
 use Rattle.vm_host.specs.Sessions.{HostState}
-use Rattle.vm_host.specs.Host.{Answer, refused, session_of, without_session, called, is_built, in_session, performed, answer_to, chain_in, asked_by, Sent, AnswersIf, Serves, Executes}
+use Rattle.vm_host.specs.Host.{Answer, refused, session_of, without_session, called, in_session, performed, answer_to, chain_in, asked_by, Sent, AnswersIf, Serves, Executes}
 
 -- as many sessions may be opened as before, and at most one is opened
 abbrev pub GrowsByOne : HostState → HostState → Type 0
@@ -32,11 +32,7 @@ called_grows h id (Err errno) = stays h
 
 in_session_grows : (h : HostState) (id : ℕ) (session : Option Session) (code : IoctlCode) (payload : List ℕ) → GrowsByOne h (in_session h id session code payload).host
 in_session_grows h id None code payload = stays h
-in_session_grows h id (Some s) code payload =
-    elim (is_built code) as (λ b. GrowsByOne h (if b then called h id (ioctl_outcome s code payload) else refused Eopnotsupp h).host) [
-      | true ↦ called_grows h id (ioctl_outcome s code payload)
-      | false ↦ stays h
-    ]
+in_session_grows h id (Some s) code payload = called_grows h id (ioctl_outcome s code payload)
 
 performed_grows : (memory : Bool) (h : HostState) (c : Command) → GrowsByOne h (performed memory h c).host
 performed_grows true h OpenSession = (refl, omega (arith, length-append h.sessions (Some (opening_session h.model (length h.sessions)) ∷ [])))

@@ -4,3 +4,4 @@ pub mod CountLemmas
 pub mod GrowthLemmas
 pub mod ServeLemmas
 pub mod SessionLemmas
+pub mod SpreadLemmas

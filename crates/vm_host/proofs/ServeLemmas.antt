@@ -2,8 +2,7 @@
 use Rattle.std.proofs.Common.{◌≡◌, ℕ, ◌≤◌, Bool, false, Option, Some, None, Result, Ok, Err, IfOk, List, [], ◌∷◌, ◌++◌, length, take, drop, refl, sym, ap, ◌∙◌, subst, arith, nat_lt}
 use Rattle.std.specs.Result.{result_err, result_unwrap_or}
 use Rattle.std.proofs.lemmas.Bool.Decides.{nat_tests}
-use Rattle.std.proofs.lemmas.List.{length-take-le, length-drop}
-use Rattle.v4l_const.specs.IoctlCode.{payload_size}
+use Rattle.std.proofs.lemmas.List.{length-drop}
 use Rattle.vm_chain.specs.Chain.{WalkedChain, writable_bytes}
 use Rattle.vm_chain.specs.declared.desc.Desc.{Desc}
 use Rattle.vm_chain.specs.declared.fault.ChainFault.{ChainFault}
@@ -15,11 +14,13 @@ use Rattle.vm_link.specs.declared.parcel.Parcel.{Parcel}
 use Rattle.vm_link.specs.declared.parcel.Taken.{Taken}
 use Rattle.vm_link.specs.declared.link.Turn.TheVariants.{Did}
 use Rattle.vm_link.proofs.QueueLemmas.{taken_then_finished}
+use Rattle.vm_wire.specs.Payload.{HasItsLength}
 use Rattle.vm_wire.specs.Wire.{judged, Spells, response_bytes}
 use Rattle.vm_wire.specs.declared.command.Command.{Command}
 use Rattle.vm_wire.specs.declared.command.Command.TheVariants.{OpenSession, CloseSession, Ioctl, Map, Unmap}
 use Rattle.vm_wire.specs.declared.command.CmdFault.{CmdFault}
 use Rattle.vm_wire.specs.declared.response.Response.{Response}
+use Rattle.vm_wire.proofs.PayloadLemmas.{need_of_front}
 use Rattle.vm_host.specs.Carrier.{readable_of, written, Fits}
 use Rattle.vm_host.specs.Sessions.{HostState}
 use Rattle.vm_host.specs.Host.{chain_in, asked_by, answer_to, IsGiven, FitsCall, Sent, Serves, AnswersIf, Served, done_as, moved_on, Executes, AsksToOpen}
@@ -30,7 +31,7 @@ spelled_fits : (bytes : List ℕ) (room : ℕ) (c : Command) → Spells bytes ro
 spelled_fits bytes room OpenSession spells = tt
 spelled_fits bytes room (CloseSession session) spells = tt
 spelled_fits bytes room (Ioctl session code payload) spells =
-    ap length spells.0.4 ∙ length-take-le (payload_size code) (drop 16 bytes) (omega (arith, spells.0.0, length-drop 16 bytes))
+    subst (HasItsLength code) (sym spells.0.4) (need_of_front code (drop 16 bytes) (omega (arith, spells.0.0, length-drop 16 bytes)))
 spelled_fits bytes room (Map session writable offset) spells = tt
 spelled_fits bytes room (Unmap addr) spells = tt
 

@@ -2,11 +2,9 @@
 use Rattle.std.specs.Prelude.{ℕ, ◌≡◌, Bool, true, false, Option, Some, None, Result, Ok, Err, List, [], ◌∷◌, ◌++◌, length, nat_lt, if◌then◌else◌, is_some, Contains, slice_index_or, slice_set}
 use Rattle.slab.specs.Slab.{Slab, Updates}
 use Rattle.v4l_const.specs.Errno.{errno_number}
-use Rattle.v4l_const.specs.IoctlCode.{payload_size}
 use Rattle.v4l_const.specs.declared.errno.Errno.{Errno}
 use Rattle.v4l_const.specs.declared.errno.Errno.TheVariants.{Einval, Eopnotsupp, Enotty, Emsgsize, Enomem, Ebadf}
 use Rattle.v4l_const.specs.declared.ioctl_code.IoctlCode.{IoctlCode}
-use Rattle.v4l_const.specs.declared.ioctl_code.IoctlCode.TheVariants.{QueryCap, EnumFmt, GFmt, SFmt, TryFmt, EnumInput, GInput, SInput}
 use Rattle.v4l_const.specs.declared.model.Model.{Model}
 use Rattle.vm_mem.specs.declared.page.Page.{Page}
 use Rattle.vm_chain.specs.Chain.{writable_bytes}
@@ -19,6 +17,7 @@ use Rattle.vm_link.specs.declared.chains.DoneChain.{DoneChain}
 use Rattle.vm_link.specs.declared.parcel.Parcel.{Parcel}
 use Rattle.vm_link.specs.declared.link.Turn.{Turn}
 use Rattle.vm_link.specs.declared.link.Turn.TheVariants.{Did, Idle}
+use Rattle.vm_wire.specs.Payload.{HasItsLength}
 use Rattle.vm_wire.specs.Wire.{judged, response_bytes}
 use Rattle.vm_wire.specs.declared.command.Command.{Command}
 use Rattle.vm_wire.specs.declared.command.Command.TheVariants.{OpenSession, CloseSession, Ioctl, Map, Unmap}
@@ -60,28 +59,16 @@ abbrev pub called : HostState → ℕ → Result IoctlAnswer Errno → Answer
 called h id (Ok a) = record { response = Answered a.payload; host = record h { sessions = slice_set h.sessions id (Some a.next) } }
 called h id (Err errno) = refused errno h
 
--- the calls that are built
-abbrev pub is_built : IoctlCode → Bool
-is_built QueryCap = true
-is_built EnumFmt = true
-is_built GFmt = true
-is_built TryFmt = true
-is_built SFmt = true
-is_built EnumInput = true
-is_built GInput = true
-is_built SInput = true
-is_built code = false
-
--- a call in a session that is live; one that isn't built is refused
+-- a call in a session, if it is live
 abbrev pub in_session : HostState → ℕ → Option Session → IoctlCode → List ℕ → Answer
 in_session h id None code payload = refused Ebadf h
-in_session h id (Some s) code payload = if is_built code then called h id (ioctl_outcome s code payload) else refused Eopnotsupp h
+in_session h id (Some s) code payload = called h id (ioctl_outcome s code payload)
 
 -- ---- calls
 
--- the payload has the size of its call's
+-- the payload has its length
 abbrev pub FitsCall : Command → Type 0
-FitsCall (Ioctl id code payload) = length payload ≡ payload_size code
+FitsCall (Ioctl id code payload) = HasItsLength code payload
 FitsCall c = Unit {0}
 
 -- What a call in the session at a key leaves: with the outcome's payload and session where it isn't refused, and else all

@@ -1,3 +1,4 @@
 pub mod Carrier
 pub mod Host
 pub mod Sessions
+pub mod Part

@@ -1,6 +1,6 @@
 ghost use Rattle.std.specs.Prelude.{◌≡◌, ◌≤◌, ◌<◌, ◌*◌, IfOk, length, vec_capacity, Ok, None};
 ghost use Rattle.vm_link.specs.Queue.{queue_at};
-ghost use Rattle.vm_link.specs.declared.link.QueueId.TheVariants.{Command as Commands};
+ghost use Rattle.vm_link.specs.declared.link.QueueId.TheVariants.{Command as Commands, Event as Events};
 ghost use Rattle.vm_wire.specs.declared.command.Command.TheVariants.{OpenSession};
 ghost use Rattle.vm_host.specs.Carrier.{StayInPages, Fits, written};
 ghost use Rattle.vm_host.specs.Host.{fresh_host, asked_by, Served, Executes, AsksToOpen};
@@ -13,16 +13,13 @@ use v4l_const::Model as DeviceModel;
 use vm_chain::{Chain, ChainFault, Desc};
 use vm_link::{Finished, Link, Parcel, QueueId, Taken, Turn};
 use vm_mem::{Memory, PAGE_SIZE};
-use vm_wire::{decode_command, encode_response};
+use vm_wire::{WIRE_ROOM, decode_command, encode_response};
 
 /// How many descriptors of a chain are visited at most.
 const CHAIN_LIMIT: u16 = 64;
 
 /// How many bytes a chain has to have room for before anything is written.
 const STATUS_LEN: u32 = 8;
-
-/// How many bytes a reply has at most.
-const LONGEST_REPLY: usize = 304;
 
 /// The device, with the sessions that guests opened.
 ///
@@ -71,7 +68,7 @@ fn answer(sessions: &mut Sessions, chain: &Chain, bytes: &mut Vec<u8>, parcel: &
     }
     gather(chain.descs(), &parcel.pages, bytes);
     let response = sessions.answer(decode_command(bytes, writable));
-    let mut reply = [0; LONGEST_REPLY];
+    let mut reply = [0; WIRE_ROOM];
     let len = encode_response(&response, &mut reply);
     write_reply(chain.descs(), parcel, &reply[..len]);
     len as u32
@@ -117,18 +114,19 @@ impl Host {
 
     /// Takes the chain that waits first, does the command that it brings, and sends the reply back. `Idle` exactly where
     /// none waits. Where the command opens a session, fewer than `opens` sessions were opened before; no other command
-    /// takes memory.
+    /// takes memory. The queue of events stays as it was.
     ///
     /// A chain with a fault, or with fewer than 8 bytes to write, goes back with nothing written. A malformed command is
     /// refused by its fault: EINVAL where it is short, EOPNOTSUPP where its number is unknown, ENOTTY where its code is,
-    /// EMSGSIZE where its reply has too little room. A command for a session that isn't live is refused with EBADF, a call
-    /// that isn't built with EOPNOTSUPP, and an open that finds no memory with ENOMEM. A refusal leaves the sessions as
+    /// EMSGSIZE where its reply has too little room. A command for a session that isn't live is refused with EBADF, a
+    /// mapping, which isn't there yet, with EOPNOTSUPP, and an open that finds no memory with ENOMEM. A refusal leaves the sessions as
     /// they were.
     ///
     /// Source: own, after the sessions of the VIRTIO 1.4 draft's media device.
     pub fn execute<L: Link>(&mut self, link: &mut L) -> Turn
         requires { AsksToOpen (queue_at Commands (L.queues link.old)).waiting → length self.old.sessions < self.old.opens }
-        ensures { Executes (queue_at Commands (L.queues link.old)).waiting self.old (queue_at Commands (L.queues link.old)) result self.new (queue_at Commands (L.queues link.new)) }
+        ensures executes { Executes (queue_at Commands (L.queues link.old)).waiting self.old (queue_at Commands (L.queues link.old)) result self.new (queue_at Commands (L.queues link.new)) }
+        ensures events { queue_at Events (L.queues link.new) ≡ queue_at Events (L.queues link.old) }
     {
         let Some(taken) = link.take(QueueId::Command, &mut self.chain) else {
             return Turn::Idle;

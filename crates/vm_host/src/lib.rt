@@ -3,9 +3,11 @@
 
 mod carrier;
 mod host;
+mod laws;
 mod sessions;
 
 pub use host::Host;
+pub use laws::replies_are_spread;
 
 #[cfg(test)]
 mod tests;

@@ -1,9 +1,9 @@
 ghost use Rattle.std.specs.Prelude.{ℕ, is_some, if◌then◌else◌, ◌≡◌, ◌<◌, ◌≤◌, ◌+◌, Some, None, Ok, Err, Result, IfOk, IfSome, IfNone, IsSome, length, slice_index_or};
 ghost use Rattle.slab.specs.Slab.{get, slab_len, Updates};
 ghost use Rattle.v4l_const.specs.Errno.{errno_number};
-ghost use Rattle.v4l_const.specs.IoctlCode.{payload_size};
+ghost use Rattle.vm_wire.specs.Payload.{HasItsLength};
 ghost use Rattle.vm_session.specs.Session.{opening_session, ioctl_outcome};
-ghost use Rattle.vm_host.specs.Host.{fresh_host, performed, answer_to, IsGiven, errno_of_fault, FitsCall, is_built, session_of, Calls, reply_to};
+ghost use Rattle.vm_host.specs.Host.{fresh_host, performed, answer_to, IsGiven, errno_of_fault, FitsCall, session_of, Calls, reply_to};
 
 use slab::Slab;
 use std::alloc::Global;
@@ -51,23 +51,6 @@ fn errno_of(fault: CmdFault) -> Errno
     }
 }
 
-// Whether a call is built.
-fn is_built(code: IoctlCode) -> bool
-    ensures { result ≡ is_built code }
-{
-    matches!(
-        code,
-        IoctlCode::QueryCap
-            | IoctlCode::EnumFmt
-            | IoctlCode::GFmt
-            | IoctlCode::TryFmt
-            | IoctlCode::SFmt
-            | IoctlCode::EnumInput
-            | IoctlCode::GInput
-            | IoctlCode::SInput
-    )
-}
-
 // The key that stands at an id's place.
 fn key_at(keys: &[Option<usize>], id: u32) -> Option<usize>
     ensures { result ≡ slice_index_or keys.now id None }
@@ -99,7 +82,7 @@ fn call_at(
     payload: &mut Payload,
 ) -> Result<(), Errno>
     requires live { IsSome (get slab.old key) }
-    requires payload { length payload.old ≡ payload_size code }
+    requires payload { HasItsLength code payload.old }
     ensures calls { (s : Session) → get slab.old key ≡ Some s → Calls slab.old slab.new key (ioctl_outcome s code payload.old) payload.old payload.new result }
     ensures len { slab_len slab.new ≡ slab_len slab.old }
 {
@@ -166,17 +149,14 @@ impl Sessions {
         }
     }
 
-    // Does a call in a session, if it is live and the call is built.
+    // Does a call in a session, if it is live.
     fn ioctl(&mut self, session: u32, code: IoctlCode, mut payload: Payload) -> Response
-        requires { length payload ≡ payload_size code }
+        requires { HasItsLength code payload }
         ensures { IsGiven (λ memory. performed memory self.old (Command.Ioctl session code payload)) result self.new }
     {
         let Some(key) = key_at(&self.keys, session) else {
             return Response::Refused(Errno::Ebadf.number());
         };
-        if !is_built(code) {
-            return Response::Refused(Errno::Eopnotsupp.number());
-        }
         let outcome = call_at(&mut self.slab, key, code, &mut payload);
         reply_to(outcome, payload)
     }

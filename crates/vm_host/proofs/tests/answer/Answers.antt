@@ -2,7 +2,7 @@ use Rattle.vm_host.proofs.GrowthLemmas.{executed_grows}
 use Rattle.vm_host.proofs.tests.answer.Goals as goal
 
 pub returns-clause-opens : goal.returns-clause-opens
-returns-clause-opens c = (executed_grows _ _ _ _ _ _ c.execute.ensures).0
+returns-clause-opens c = (executed_grows _ _ _ _ _ _ c.execute.ensures.executes).0
 
 pub returns-clause-sessions : goal.returns-clause-sessions
-returns-clause-sessions c = (executed_grows _ _ _ _ _ _ c.execute.ensures).1
+returns-clause-sessions c = (executed_grows _ _ _ _ _ _ c.execute.ensures.executes).1

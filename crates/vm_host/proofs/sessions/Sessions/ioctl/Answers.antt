@@ -8,7 +8,7 @@ returns c =
       true,
       rw (← c.self.view_is, c.reply_to.ensures)
           (called_answer c.self.inside.model c.self.inside.opens c.self.inside.slab c.call_at-outcome.new.slab c.self.inside.keys.items c.in-Some.key c.args.session found.0 c.args.code
-          c.args.payload c.call_at-outcome.new.payload c.call_at-outcome.result c.self.invariant.3 (cc) found.1 (cc) (c.call_at-outcome.ensures.calls found.0 found.1)),
+          c.args.payload c.call_at-outcome.new.payload c.call_at-outcome.result c.self.invariant.3 (cc) found.1 (c.call_at-outcome.ensures.calls found.0 found.1)),
     )
 
 pub invariant_of-self : goal.invariant_of-self

@@ -1,0 +1,36 @@
+-- The device's part of each step, over what is said on the link. Nothing here reads the driver's side.
+use Rattle.std.specs.Prelude.{ℕ, Bool, List, [], Result, Ok, Err, nat_lt, if◌then◌else◌}
+use Rattle.vm_chain.specs.Chain.{writable_bytes}
+use Rattle.vm_chain.specs.declared.desc.Desc.{Desc}
+use Rattle.vm_chain.specs.declared.fault.ChainFault.{ChainFault}
+use Rattle.vm_link.specs.declared.parcel.Parcel.{Parcel}
+use Rattle.vm_wire.specs.Message.{Ask, Request, Reply}
+use Rattle.vm_wire.specs.Message.Ask.{Unusable, Judged}
+use Rattle.vm_wire.specs.Wire.{response_bytes}
+use Rattle.vm_host.specs.Sessions.{HostState}
+use Rattle.vm_host.specs.Host.{Answer, answer_to, chain_in, asked_by}
+
+-- what a chain with these descriptors, or with a fault, asks
+abbrev pub ask_by : Result (List Desc) ChainFault → Parcel → Ask
+ask_by (Err fault) p = Unusable
+ask_by (Ok descs) p = if nat_lt (writable_bytes descs) 8 then Unusable else Judged (asked_by descs p.pages)
+
+-- what a parcel on the queue of commands says
+abbrev pub request_of : Parcel → Request
+request_of p = record { who = p.who; asks = ask_by (chain_in p) p }
+
+-- the device after a step, and what it finishes
+pub record Finishing : Type 0 where
+  pub reply : Reply
+  pub host : HostState
+
+abbrev pub finishing : ℕ → Answer → Finishing
+finishing who a = record { reply = record { who = who; bytes = response_bytes a.response }; host = a.host }
+
+abbrev pub executed_ask : Bool → HostState → ℕ → Ask → Finishing
+executed_ask memory h who Unusable = record { reply = record { who = who; bytes = [] }; host = h }
+executed_ask memory h who (Judged asked) = finishing who (answer_to memory h asked)
+
+-- what the device does with a request. Whether memory came is free.
+abbrev pub executed : Bool → HostState → Request → Finishing
+executed memory h r = executed_ask memory h r.who r.asks
