@@ -2,7 +2,7 @@
 use Rattle.std.proofs.Common.{◌≡◌, ℕ, ◌+◌, ◌*◌, ◌%◌, ◌<◌, List, [], ◌∷◌, ◌++◌, set, length, take, ap, sym, ◌∙◌, arith}
 use Rattle.std.proofs.lemmas.List.{take_more_set}
 use Rattle.std.proofs.lemmas.List.FromFn.{map-range_with_len_more}
-use Rattle.vm_local.specs.Calls.{seeded}
+use Rattle.vm_mem.specs.Seeded.{seeded}
 
 pub seeded_more : (bytes : List ℕ) (i seed v : ℕ) → v ≡ (7 * i + seed) % 256 → i < length bytes →
     take i bytes ≡ seeded seed i → take (i + 1) (set bytes i v) ≡ seeded seed (i + 1)

@@ -1,13 +1,16 @@
 -- What a call leaves as it was.
-use Rattle.std.proofs.Common.{◌≡◌, ◌⊎◌, inl, inr, ℕ, zero, suc, Bool, true, false, List, [], ◌∷◌, get_or, set, Option, Some, None, refl, sym, ap, ◌∙◌, subst, slice_get, ◌&&◌, not, if◌then◌else◌}
+use Rattle.std.proofs.Common.{◌≡◌, ◌⊎◌, inl, inr, ℕ, Bool, true, false, List, get_or, set, Option, Some, None, refl, sym, ap, ◌∙◌, subst, slice_get, ◌&&◌, not, if◌then◌else◌}
 use Rattle.std.specs.Option.{option_map, unwrap_or}
 use Rattle.std.proofs.lemmas.Option.{none-some}
 use Rattle.std.proofs.lemmas.Bool.{false≢true}
 use Rattle.v4l_const.specs.declared.errno.Errno.{Errno}
 use Rattle.v4l_const.specs.declared.errno.Errno.TheVariants.{Enomem}
 use Rattle.v4l_const.specs.declared.model.Model.{Model}
-use Rattle.v4l_const.specs.Model.{queues as types_of, picture_queue}
+use Rattle.v4l_const.specs.Model.{queues as types_of}
 use Rattle.v4l_format.specs.declared.fmt.Fmt.{Fmt}
+use Rattle.v4l_rules.specs.Queues.{place_in}
+use Rattle.v4l_rules.specs.Refusals.{first_refusal}
+use Rattle.v4l_rules.proofs.SetLemmas.{formatted_keeps, set_keeps}
 use Rattle.vm_local.specs.declared.buffer.Buffer.{Buffer}
 use Rattle.vm_local.specs.declared.call.Call.{Call}
 use Rattle.vm_local.specs.declared.call.Call.TheVariants.{OpenHandle, CloseHandle, QueryCap, EnumFmt, GFmt, TryFmt, SFmt, EnumInput, GInput, SInput, ReqBufs, QueryBuf, UAlloc, QBuf, StreamOn, StreamOff, DqBuf, Mmap, Munmap, Peek, Hash, Poke, Fill, Subscribe, Unsubscribe, DqEvent}
@@ -15,11 +18,11 @@ use Rattle.vm_local.specs.declared.entry.Entry.{Entry}
 use Rattle.vm_local.specs.declared.entry.Entry.TheVariants.{Called, Finish, Bad, Give}
 use Rattle.vm_local.specs.declared.reply.Reply.{Reply}
 use Rattle.vm_local.specs.declared.reply.Reply.TheVariants.{Refused}
-use Rattle.vm_local.specs.State.{QueueState, LocalState, opening_queue, place_in, queue_of}
+use Rattle.vm_local.specs.State.{QueueState, LocalState, opening_queue, queue_kind, queue_of}
 use Rattle.vm_local.specs.Same.{same_reply, address_in}
-use Rattle.vm_local.specs.Queue.{is_source, sized_as, with_format, with_set_format, adjusted_for, started}
+use Rattle.vm_local.specs.Queue.{with_set_format, adjusted_for, started}
 use Rattle.vm_local.specs.Calls.{Row, row_of, querycap_row, enumfmt_row, gfmt_row, tryfmt_row, sfmt_row, enuminput_row, ginput_row, sinput_row, reqbufs_row, querybuf_row, ualloc_row, qbuf_row, streamon_row, streamoff_row, dqbuf_row, mmap_row, munmap_row, read_row, hash_row, write_row, fill_row, subscribe_row, unsubscribe_row, dqevent_row}
-use Rattle.vm_local.specs.Log.{first_refusal, answered, row_for, called, after}
+use Rattle.vm_local.specs.Log.{answered, row_for, called, after}
 use Rattle.vm_local.specs.Owner.{owner_by, owner_of, moves_by, moves}
 
 -- no row's reply is a refusal
@@ -103,23 +106,10 @@ Keeps s t =
 
 pub keeps_set : (qs : List QueueState) (p : ℕ) (v : QueueState) → v.buffers ≡ (get_or qs p opening_queue).buffers →
     (i : ℕ) → (get_or (set qs p v) i opening_queue).buffers ≡ (get_or qs i opening_queue).buffers
-keeps_set [] p v h i = refl
-keeps_set (q ∷ qs) zero v h zero = h
-keeps_set (q ∷ qs) zero v h (suc i) = refl
-keeps_set (q ∷ qs) (suc p) v h zero = refl
-keeps_set (q ∷ qs) (suc p) v h (suc i) = keeps_set qs p v h i
-
-pub keeps_format : (s : LocalState) (t : ℕ) (f : Fmt) → Keeps s (with_format s t f)
-keeps_format s t f = (refl, keeps_set s.queues (place_in (types_of s.model) t) _ refl)
+keeps_set qs p v h i = set_keeps opening_queue (λ q. q.buffers) qs p v h i
 
 pub keeps_set_format : (s : LocalState) (t : ℕ) (f : Fmt) → Keeps s (with_set_format s t f)
-unfolding with_set_format
-keeps_set_format s t f =
-    let g : Fmt = sized_as f (queue_of s (picture_queue s.model)).format in
-    elim (is_source s t) as (λ b. Keeps s (if b then with_format (with_format s t f) (picture_queue s.model) g else with_format s t f)) [
-      | true ↦ (refl, λ p. (keeps_format (with_format s t f) (picture_queue s.model) g).1 p ∙ (keeps_format s t f).1 p)
-      | false ↦ keeps_format s t f
-    ]
+keeps_set_format s t f = (refl, λ p. formatted_keeps queue_kind (λ q. q.buffers) (λ q g. refl) s.model s.queues t f p)
 
 pub keeps_row : (s : LocalState) (line addr : ℕ) (call : Call) → moves_by call ≡ false → Keeps s (row_of s line addr call).next
 unfolding querycap_row enumfmt_row gfmt_row tryfmt_row sfmt_row enuminput_row ginput_row sinput_row reqbufs_row querybuf_row ualloc_row qbuf_row streamon_row streamoff_row dqbuf_row mmap_row munmap_row read_row hash_row write_row fill_row subscribe_row unsubscribe_row dqevent_row

@@ -3,9 +3,15 @@ pub mod PaddedLemmas
 pub mod SizesLemmas
 pub mod BytesLemmas
 pub mod RangeLemmas
-pub mod ModelLemmas
 pub mod FormatLemmas
 pub mod PaddedPictureLemmas
 pub mod FrameLemmas
 pub mod KeptLemmas
 pub mod SameLemmas
+pub mod StepLemmas
+pub mod ShutLemmas
+pub mod EventLemmas
+pub mod CountLemmas
+pub mod ListedLemmas
+pub mod LiveLemmas
+pub mod ThereLemmas

@@ -1,17 +1,18 @@
 -- The calls of a handle: for each its refusals in the order in which they are tried, and else its reply and the state
 -- after it. What they do is this project's own, after the Linux V4L2 interface.
-use Rattle.std.specs.Prelude.{ℕ, Bool, true, false, not, List, [], ◌∷◌, ◌++◌, map, length, take, drop, replicate, ◌+◌, ◌*◌, ◌%◌, ◌&&◌, ◌||◌, ◌==◌, nat_lt, slice_index_or, Option, Some, None, is_some}
+use Rattle.std.specs.Prelude.{ℕ, Bool, true, false, not, List, [], ◌∷◌, ◌++◌, map, length, take, drop, replicate, ◌+◌, ◌&&◌, ◌||◌, ◌==◌, nat_lt, slice_index_or, Option, Some, None, is_some}
 use Rattle.std.specs.Option.{unwrap_or}
-use Rattle.std.specs.List.{range_with_len}
 use Rattle.sha2.specs.Sha256.{sha256}
 use Rattle.v4l_const.specs.declared.errno.Errno.{Errno}
-use Rattle.v4l_const.specs.declared.errno.Errno.TheVariants.{Enoent, Ebadf, Eagain, Eacces, Efault, Ebusy, Einval, Enotty, Edeadlk}
+use Rattle.v4l_const.specs.declared.errno.Errno.TheVariants.{Enoent, Ebadf, Eagain, Eacces, Efault, Ebusy, Einval, Edeadlk}
 use Rattle.v4l_const.specs.declared.four_cc.FourCc.{FourCc}
-use Rattle.v4l_const.specs.Model.{capabilities, device_capabilities, has_inputs, has_events}
+use Rattle.v4l_const.specs.Model.{capabilities, device_capabilities, has_events}
 use Rattle.v4l_format.specs.declared.fmt.Fmt.{Fmt}
 use Rattle.v4l_format.specs.Fmt.{line_length, picture_size}
 use Rattle.v4l_format.specs.FormatRow.{formats_of, grey}
-use Rattle.v4l_format.specs.Pattern.{patterns}
+use Rattle.vm_mem.specs.Seeded.{seeded}
+use Rattle.v4l_rules.specs.Formats.{is_source}
+use Rattle.v4l_rules.specs.Refusals.{no_type, no_inputs, no_input}
 use Rattle.vm_local.specs.declared.bound.BoundKind.TheVariants.{Mapping, User}
 use Rattle.vm_local.specs.declared.buffer.Buffer.{Buffer}
 use Rattle.vm_local.specs.declared.call.Call.{Call}
@@ -19,10 +20,10 @@ use Rattle.vm_local.specs.declared.call.Call.TheVariants.{OpenHandle, CloseHandl
 use Rattle.vm_local.specs.declared.owed.SyncEvent.{SyncEvent}
 use Rattle.vm_local.specs.declared.reply.Reply.{Reply}
 use Rattle.vm_local.specs.declared.reply.Reply.TheVariants.{Done, Caps, Code, Format, InputName, InputIs, Count, Buf, Pages, Frame, Mapped, Bytes, Digest, Event}
-use Rattle.vm_local.specs.State.{QueueState, LocalState, opening, has_type, queue_of, with_queue, buffer_of}
+use Rattle.vm_local.specs.State.{QueueState, LocalState, opening, queue_of, with_queue, buffer_of}
 use Rattle.vm_local.specs.Memory.{named, is_mapping, is_user, is_writable, memory_of, unbound, with_bound, bytes_of, with_bytes, pages_of, is_lent, is_in_use}
 use Rattle.vm_local.specs.Kinds.{is_idle}
-use Rattle.vm_local.specs.Queue.{is_empty, is_source, has_buffers, is_streaming, adjusted_for, with_set_format, stopped_queue, stopped, is_user_ptr, memory_kind, granted, with_buffers, brought, length_from, with_queued, started, made_idle, first_done, taken_back, is_owed, can_finish, flags_of}
+use Rattle.vm_local.specs.Queue.{is_empty, has_buffers, is_streaming, adjusted_for, with_set_format, stopped_queue, stopped, is_user_ptr, memory_kind, granted, with_buffers, brought, length_from, with_queued, started, made_idle, first_done, taken_back, is_owed, can_finish, flags_of}
 
 -- a row of the table of calls
 pub record Row : Type 0 where
@@ -47,19 +48,9 @@ row_with_memory may refusals reply next = record (row refusals reply next) { may
 abbrev pub not_open : LocalState → Bool × Errno
 not_open s = (not s.opened, Ebadf)
 
--- t is no type of the model
-abbrev pub no_type : LocalState → ℕ → Bool × Errno
-no_type s t = (not (has_type s t), Einval)
-
 -- i isn't below the count of the buffers of t
 abbrev pub no_index : LocalState → ℕ → ℕ → Bool × Errno
 no_index s t i = (not (nat_lt i (length (queue_of s t).buffers)), Einval)
-
-abbrev pub no_inputs : LocalState → Bool × Errno
-no_inputs s = (not (has_inputs s.model), Enotty)
-
-abbrev pub no_input : ℕ → Bool × Errno
-no_input i = (not (nat_lt i (length patterns)), Einval)
 
 abbrev pub not_bound : LocalState → List ℕ → Bool × Errno
 not_bound s m = (not (is_some (named s m)), Efault)
@@ -88,33 +79,33 @@ querycap_row s = row (not_open s ∷ []) (Caps (capabilities s.model) (device_ca
 unfoldable pub enumfmt_row : LocalState → ℕ → ℕ → Row
 enumfmt_row s t i =
     row
-    (not_open s ∷ no_type s t ∷ (not (nat_lt i (length (formats_of s.model))), Einval) ∷ [])
+    (not_open s ∷ no_type s.model t ∷ (not (nat_lt i (length (formats_of s.model))), Einval) ∷ [])
     (Code (slice_index_or (formats_of s.model) i grey).code) s
 
 abbrev pub format_reply : Fmt → Reply
 format_reply f = Format f (line_length f) (picture_size f)
 
 unfoldable pub gfmt_row : LocalState → ℕ → Row
-gfmt_row s t = row (not_open s ∷ no_type s t ∷ []) (format_reply (queue_of s t).format) s
+gfmt_row s t = row (not_open s ∷ no_type s.model t ∷ []) (format_reply (queue_of s t).format) s
 
 unfoldable pub tryfmt_row : LocalState → ℕ → FourCc → ℕ → ℕ → Row
-tryfmt_row s t f w h = row (not_open s ∷ no_type s t ∷ []) (format_reply (adjusted_for s t f w h)) s
+tryfmt_row s t f w h = row (not_open s ∷ no_type s.model t ∷ []) (format_reply (adjusted_for s t f w h)) s
 
 unfoldable pub sfmt_row : LocalState → ℕ → FourCc → ℕ → ℕ → Row
 sfmt_row s t f w h =
     row
-    (not_open s ∷ no_type s t ∷ (has_buffers s, Ebusy) ∷ [])
+    (not_open s ∷ no_type s.model t ∷ (has_buffers s, Ebusy) ∷ [])
     (format_reply (adjusted_for s t f w h)) (with_set_format s t (adjusted_for s t f w h))
 
 unfoldable pub enuminput_row : LocalState → ℕ → Row
-enuminput_row s i = row (not_open s ∷ no_inputs s ∷ no_input i ∷ []) (InputName i) s
+enuminput_row s i = row (not_open s ∷ no_inputs s.model ∷ no_input i ∷ []) (InputName i) s
 
 unfoldable pub ginput_row : LocalState → Row
-ginput_row s = row (not_open s ∷ no_inputs s ∷ []) (InputIs s.input) s
+ginput_row s = row (not_open s ∷ no_inputs s.model ∷ []) (InputIs s.input) s
 
 unfoldable pub sinput_row : LocalState → ℕ → Row
 sinput_row s i =
-    row (not_open s ∷ no_inputs s ∷ no_input i ∷ (is_streaming s, Ebusy) ∷ []) (InputIs i) (record s { input = i })
+    row (not_open s ∷ no_inputs s.model ∷ no_input i ∷ (is_streaming s, Ebusy) ∷ []) (InputIs i) (record s { input = i })
 
 -- ---- buffers
 
@@ -122,13 +113,13 @@ unfoldable pub reqbufs_row : LocalState → ℕ → ℕ → ℕ → Row
 reqbufs_row s t m n =
     row_with_memory
     (nat_lt 0 n)
-    (not_open s ∷ no_type s t ∷ (not (m == 1 || m == 2), Einval) ∷ (nat_lt 0 n && (queue_of s t).streaming, Ebusy) ∷ [])
+    (not_open s ∷ no_type s.model t ∷ (not (m == 1 || m == 2), Einval) ∷ (nat_lt 0 n && (queue_of s t).streaming, Ebusy) ∷ [])
     (Count (granted n)) (with_buffers s t (memory_kind m) (granted n))
 
 unfoldable pub querybuf_row : LocalState → ℕ → ℕ → Row
 querybuf_row s t i =
     let b : Buffer = buffer_of (queue_of s t) i in
-    row (not_open s ∷ no_type s t ∷ no_index s t i ∷ []) (Buf b.length (flags_of s b)) s
+    row (not_open s ∷ no_type s.model t ∷ no_index s t i ∷ []) (Buf b.length (flags_of s b)) s
 
 unfoldable pub ualloc_row : LocalState → ℕ → List ℕ → ℕ → ℕ → Row
 ualloc_row s line u len off =
@@ -156,7 +147,7 @@ qbuf_row s t i user used ts =
     let memory : Option ℕ = brought s user in
     row
     (not_open s ∷
-    no_type s t ∷
+    no_type s.model t ∷
     no_index s t i ∷
     (not (is_idle b.state), Einval) ∷
     (is_some user && not (is_user_ptr q.memory), Einval) ∷
@@ -164,17 +155,17 @@ qbuf_row s t i user used ts =
     (names_no_user s user, Efault) ∷
     (is_some user && nat_lt (length_from s memory b) (picture_size q.format), Einval) ∷
     (brings_used s memory, Einval) ∷
-    (is_source s t && nat_lt (length_from s memory b) used, Einval) ∷ [])
+    (is_source s.model t && nat_lt (length_from s memory b) used, Einval) ∷ [])
     Done (with_queued s t i memory used ts)
 
 unfoldable pub streamon_row : LocalState → ℕ → Row
 streamon_row s t =
     row
-    (not_open s ∷ no_type s t ∷ (is_empty (queue_of s t).buffers, Einval) ∷ [])
+    (not_open s ∷ no_type s.model t ∷ (is_empty (queue_of s t).buffers, Einval) ∷ [])
     Done (with_queue s t (started (queue_of s t)))
 
 unfoldable pub streamoff_row : LocalState → ℕ → Row
-streamoff_row s t = row (not_open s ∷ no_type s t ∷ []) Done (stopped s t)
+streamoff_row s t = row (not_open s ∷ no_type s.model t ∷ []) Done (stopped s t)
 
 -- the buffer that a dqbuf gives back, Idle
 abbrev pub given_back : QueueState → Buffer
@@ -186,7 +177,7 @@ dqbuf_row s t =
     let b : Buffer = given_back q in
     record (row
     (not_open s ∷
-    no_type s t ∷
+    no_type s.model t ∷
     (not q.streaming, Einval) ∷
     (not s.blocking && is_empty q.done, Eagain) ∷
     (s.blocking && is_empty q.done && not (is_owed s t) && not (can_finish s), Edeadlk) ∷ [])
@@ -199,7 +190,7 @@ mmap_row s addr m t i ro =
     let b : Buffer = buffer_of (queue_of s t) i in
     row_with_memory
     true
-    (not_open s ∷ no_type s t ∷ no_index s t i ∷ (is_user_ptr (queue_of s t).memory, Einval) ∷ [])
+    (not_open s ∷ no_type s.model t ∷ no_index s t i ∷ (is_user_ptr (queue_of s t).memory, Einval) ∷ [])
     (Mapped addr b.length)
     (with_bound s (record { name = m; memory = unwrap_or b.memory 0; kind = Mapping addr b.length (not ro) }))
 
@@ -229,10 +220,6 @@ write_row s m off bytes =
     (not (is_writable (named s m)), Eacces) ∷
     (is_in_use s memory, Ebusy) ∷ [])
     Done (with_bytes s memory (take off old ++ (bytes ++ drop (off + length bytes) old)))
-
--- n bytes, byte i of which is 7 i + seed modulo 256
-abbrev pub seeded : ℕ → ℕ → List ℕ
-seeded seed n = map (λ i. (7 * i + seed) % 256) (range_with_len 0 n)
 
 unfoldable pub fill_row : LocalState → List ℕ → ℕ → Row
 fill_row s m seed =

@@ -9,3 +9,7 @@ pub mod Steps
 pub mod Log
 pub mod Sizes
 pub mod Owner
+pub mod Opens
+pub mod Listed
+pub mod Live
+pub mod Replays

@@ -4,6 +4,7 @@ use Rattle.std.specs.Option.{option_and_then}
 use Rattle.v4l_const.specs.declared.errno.Errno.{Errno}
 use Rattle.v4l_const.specs.declared.errno.Errno.TheVariants.{Enomem}
 use Rattle.v4l_const.specs.declared.model.Model.{Model}
+use Rattle.v4l_rules.specs.Refusals.{first_refusal}
 use Rattle.vm_local.specs.declared.call.Call.{Call}
 use Rattle.vm_local.specs.declared.entry.Entry.{Entry}
 use Rattle.vm_local.specs.declared.entry.Entry.TheVariants.{Called, Finish, Bad, Give}
@@ -15,11 +16,6 @@ use Rattle.vm_local.specs.Calls.{Row, row_of}
 use Rattle.vm_local.specs.Steps.{finished, marked_bad, given}
 
 -- ---- a call
-
--- the first refusal that applies
-abbrev pub first_refusal : List (Bool × Errno) → Option Errno
-first_refusal [] = None
-first_refusal (r ∷ rs) = if r.0 then Some r.1 else first_refusal rs
 
 -- the state after a call that is refused, or that no refusal stops: a want of memory changes nothing
 abbrev pub answered : Option Errno → Row → LocalState → Reply → Option LocalState

@@ -1,32 +1,25 @@
 -- What the calls do to the queues of a handle.
 use Rattle.std.specs.Prelude.{ℕ, Bool, true, false, not, ◌&&◌, List, [], ◌∷◌, ◌++◌, map, length, drop, min, replicate, ◌+◌, ◌==◌, if◌then◌else◌, slice_index, Option, Some, None}
 use Rattle.std.specs.List.{list_any, list_all, filter, range_with_len}
-use Rattle.v4l_const.specs.Model.{source_queue, picture_queue, timestamp_flag}
+use Rattle.v4l_const.specs.Model.{timestamp_flag}
 use Rattle.v4l_const.specs.declared.four_cc.FourCc.{FourCc}
 use Rattle.v4l_format.specs.declared.fmt.Fmt.{Fmt}
-use Rattle.v4l_format.specs.Fmt.{adjusted, picture_size}
+use Rattle.v4l_format.specs.Fmt.{picture_size}
+use Rattle.v4l_rules.specs.Formats.{is_source, taken_format, with_set_format_at}
 use Rattle.vm_local.specs.declared.bound.MemoryKind.{MemoryKind}
 use Rattle.vm_local.specs.declared.bound.MemoryKind.TheVariants.{Mmap, UserPtr}
 use Rattle.vm_local.specs.declared.buffer.Buffer.{Buffer}
 use Rattle.vm_local.specs.declared.buffer.BufferState.TheVariants.{Idle, Queued}
 use Rattle.vm_local.specs.declared.owed.Owed.{Owed}
-use Rattle.vm_local.specs.State.{QueueState, LocalState, queue_of, with_queue, no_buffer, buffer_of, with_buffer}
-use Rattle.vm_local.specs.Memory.{is_just, is_mapped, bytes_of, memory_of, named}
+use Rattle.vm_local.specs.State.{QueueState, LocalState, queue_kind, queue_of, with_queue, no_buffer, buffer_of, with_buffer}
+use Rattle.vm_local.specs.Memory.{is_mapped, bytes_of, memory_of, named}
 use Rattle.vm_local.specs.Kinds.{is_away, is_done}
 
 abbrev pub is_empty : {A : Type 0} → List A → Bool
 is_empty [] = true
 is_empty (x ∷ xs) = false
 
--- the queue whose buffers the device reads
-abbrev pub is_source : LocalState → ℕ → Bool
-is_source s t = is_just (source_queue s.model) t
-
 -- ---- formats
-
--- a format with the size of another
-abbrev pub sized_as : Fmt → Fmt → Fmt
-sized_as size f = record { code = f.code; width = size.width; height = size.height }
 
 -- a queue of the handle has buffers
 abbrev pub has_buffers : LocalState → Bool
@@ -36,26 +29,12 @@ has_buffers s = list_any (λ q. not (is_empty q.buffers)) s.queues
 abbrev pub is_streaming : LocalState → Bool
 is_streaming s = list_any (λ q. q.streaming) s.queues
 
--- a picture that is made from a source picture has its size, whatever is asked for
-abbrev pub adjusted_from : Option ℕ → LocalState → ℕ → FourCc → ℕ → ℕ → Fmt
-adjusted_from None s t f w h = adjusted f w h
-adjusted_from (Some source) s t f w h =
-    if t == picture_queue s.model then sized_as (queue_of s source).format (adjusted f w h) else adjusted f w h
-
 -- the format that a queue takes where it is asked for this one
 abbrev pub adjusted_for : LocalState → ℕ → FourCc → ℕ → ℕ → Fmt
-adjusted_for s t f w h = adjusted_from (source_queue s.model) s t f w h
+adjusted_for s t f w h = taken_format queue_kind s.model s.queues t f w h
 
-abbrev pub with_format : LocalState → ℕ → Fmt → LocalState
-with_format s t f = with_queue s t (record (queue_of s t) { format = f })
-
--- a source's new format gives the pictures made from it their size
-unfoldable pub with_set_format : LocalState → ℕ → Fmt → LocalState
-with_set_format s t f =
-    if is_source s t then
-    with_format (with_format s t f) (picture_queue s.model)
-    (record { code = (queue_of s (picture_queue s.model)).format.code; width = f.width; height = f.height })
-    else with_format s t f
+abbrev pub with_set_format : LocalState → ℕ → Fmt → LocalState
+with_set_format s t f = record s { queues = with_set_format_at queue_kind s.model s.queues t f }
 
 -- ---- stopping
 
@@ -137,8 +116,8 @@ queued_buffer s t memory used ts b =
       is_bad = false;
       length = len;
       memory = memory_from memory b;
-      used = if is_source s t then (if used == 0 then len else used) else b.used;
-      timestamp = if is_source s t then ts else b.timestamp;
+      used = if is_source s.model t then (if used == 0 then len else used) else b.used;
+      timestamp = if is_source s.model t then ts else b.timestamp;
     }
 
 abbrev pub with_queued : LocalState → ℕ → ℕ → Option ℕ → ℕ → ℕ → LocalState

@@ -1,31 +1,34 @@
 -- When two replies are the same, and what is free in a reply.
-use Rattle.std.specs.Prelude.{ℕ, Bool, List, [], ◌∷◌}
+use Rattle.std.specs.Prelude.{ℕ, Bool, true, false, ◌==◌, ◌&&◌}
 use Rattle.std.specs.Str.{bytes_eq}
 use Rattle.v4l_const.specs.Errno.{errno_number}
+use Rattle.v4l_format.specs.declared.fmt.Fmt.{Fmt}
 use Rattle.vm_local.specs.declared.reply.Reply.{Reply}
 use Rattle.vm_local.specs.declared.reply.Reply.TheVariants.{Done, Refused, Caps, Code, Format, InputName, InputIs, Count, Buf, Pages, Frame, Mapped, Bytes, Digest, Event}
 
--- a reply as a list of numbers: a number for its kind, and then what it carries
-abbrev pub reply_numbers : Reply → List ℕ
-reply_numbers Done = 0 ∷ []
-reply_numbers (Refused e) = 1 ∷ errno_number e ∷ []
-reply_numbers (Caps all device) = 2 ∷ all ∷ device ∷ []
-reply_numbers (Code f) = 3 ∷ f.0 ∷ []
-reply_numbers (Format f line size) = 4 ∷ f.code.0 ∷ f.width ∷ f.height ∷ line ∷ size ∷ []
-reply_numbers (InputName i) = 5 ∷ i ∷ []
-reply_numbers (InputIs i) = 6 ∷ i ∷ []
-reply_numbers (Count n) = 7 ∷ n ∷ []
-reply_numbers (Buf len flags) = 8 ∷ len ∷ flags ∷ []
-reply_numbers (Pages n) = 9 ∷ n ∷ []
-reply_numbers (Frame i used seq ts flags) = 10 ∷ i ∷ used ∷ seq ∷ ts ∷ flags ∷ []
-reply_numbers (Mapped addr len) = 11 ∷ addr ∷ len ∷ []
-reply_numbers (Bytes bytes) = 12 ∷ bytes
-reply_numbers (Digest digest) = 13 ∷ digest
-reply_numbers (Event kind frame pending seq) = 14 ∷ kind ∷ frame ∷ pending ∷ seq ∷ []
+abbrev pub same_format : Fmt → Fmt → Bool
+same_format f g = (f.code.0 == g.code.0) && ((f.width == g.width) && (f.height == g.height))
 
--- two replies are the same where their numbers are
+-- two replies are the same: of one kind, with the same in each field
 abbrev pub same_reply : Reply → Reply → Bool
-same_reply a b = bytes_eq (reply_numbers a) (reply_numbers b)
+same_reply Done Done = true
+same_reply (Refused e) (Refused e') = errno_number e == errno_number e'
+same_reply (Caps all device) (Caps all' device') = (all == all') && (device == device')
+same_reply (Code f) (Code f') = f.0 == f'.0
+same_reply (Format f line size) (Format f' line' size') = same_format f f' && ((line == line') && (size == size'))
+same_reply (InputName i) (InputName i') = i == i'
+same_reply (InputIs i) (InputIs i') = i == i'
+same_reply (Count n) (Count n') = n == n'
+same_reply (Buf len flags) (Buf len' flags') = (len == len') && (flags == flags')
+same_reply (Pages n) (Pages n') = n == n'
+same_reply (Frame i used seq ts flags) (Frame i' used' seq' ts' flags') =
+    (i == i') && ((used == used') && ((seq == seq') && ((ts == ts') && (flags == flags'))))
+same_reply (Mapped addr len) (Mapped addr' len') = (addr == addr') && (len == len')
+same_reply (Bytes bytes) (Bytes bytes') = bytes_eq bytes bytes'
+same_reply (Digest digest) (Digest digest') = bytes_eq digest digest'
+same_reply (Event kind frame pending seq) (Event kind' frame' pending' seq') =
+    (kind == kind') && ((frame == frame') && ((pending == pending') && (seq == seq')))
+same_reply reply other = false
 
 -- the address in a reply: it is free
 abbrev pub address_in : Reply → ℕ

@@ -1,7 +1,7 @@
 -- The pictures of all queues of a handle have one size.
 use Rattle.std.specs.Prelude.{◌≡◌, ℕ, ◌<◌, List, length, slice_index_or}
 use Rattle.v4l_format.specs.declared.fmt.Fmt.{Fmt}
-use Rattle.vm_local.specs.Queue.{sized_as}
+use Rattle.v4l_rules.specs.Formats.{sized_as}
 use Rattle.vm_local.specs.State.{QueueState, opening_queue}
 
 abbrev pub SameSize : QueueState → QueueState → Type 0

@@ -1,9 +1,9 @@
 -- The state of one V4L2 handle, in plain lists and numbers.
-use Rattle.std.specs.Prelude.{ℕ, Bool, true, false, List, [], ◌∷◌, map, length, ◌+◌, ◌==◌, if◌then◌else◌, nat_lt, slice_index_or, slice_set, None}
+use Rattle.std.specs.Prelude.{ℕ, Bool, true, false, List, [], slice_index_or, slice_set, None}
 use Rattle.v4l_const.specs.declared.model.Model.{Model}
-use Rattle.v4l_const.specs.Model.{queues as types_of}
 use Rattle.v4l_format.specs.declared.fmt.Fmt.{Fmt}
-use Rattle.v4l_format.specs.FormatRow.{grey}
+use Rattle.v4l_rules.specs.Formats.{first_format}
+use Rattle.v4l_rules.specs.Queues.{QueueKind, opening_queues, queue_at, with_queue_at}
 use Rattle.vm_local.specs.declared.bound.Bound.{Bound}
 use Rattle.vm_local.specs.declared.bound.MemoryKind.{MemoryKind}
 use Rattle.vm_local.specs.declared.bound.MemoryKind.TheVariants.{Mmap}
@@ -47,10 +47,6 @@ pub record LocalState : Type 0 where
   -- the bound names, each once
   pub bound : List Bound
 
--- GREY 64 by 48, the format that a queue begins with
-abbrev pub first_format : Fmt
-first_format = record { code = grey.code; width = 64; height = 48 }
-
 abbrev pub opening_queue : QueueState
 opening_queue = record {
   format = first_format;
@@ -61,6 +57,10 @@ opening_queue = record {
   done = [];
   next_sequence = 0;
 }
+
+-- what the rules of models and formats ask of a queue
+abbrev pub queue_kind : QueueKind QueueState
+queue_kind = record { opening = opening_queue; format = λ q. q.format; reformatted = λ q f. record q { format = f } }
 
 -- the state before the first entry of a log: closed, with nothing bound
 abbrev pub opening : Model → LocalState
@@ -73,28 +73,19 @@ opening m = record {
   events = [];
   next_event = 0;
   owed = [];
-  queues = map (λ _. opening_queue) (types_of m);
+  queues = opening_queues queue_kind m;
   memories = [];
   bound = [];
 }
 
 -- ---- the queue of a buffer type
 
--- the place of a buffer type among those of a model; behind them all where the model doesn't have it
-abbrev pub place_in : List ℕ → ℕ → ℕ
-place_in [] t = 0
-place_in (u ∷ us) t = if u == t then 0 else place_in us t + 1
-
--- whether the model has this buffer type
-abbrev pub has_type : LocalState → ℕ → Bool
-has_type s t = nat_lt (place_in (types_of s.model) t) (length (types_of s.model))
-
 abbrev pub queue_of : LocalState → ℕ → QueueState
-queue_of s t = slice_index_or s.queues (place_in (types_of s.model) t) opening_queue
+queue_of s t = queue_at queue_kind s.model s.queues t
 
 -- the state with another queue of this type
 abbrev pub with_queue : LocalState → ℕ → QueueState → LocalState
-with_queue s t q = record s { queues = slice_set s.queues (place_in (types_of s.model) t) q }
+with_queue s t q = record s { queues = with_queue_at s.model s.queues t q }
 
 -- ---- a buffer of a queue
 

@@ -1,12 +1,14 @@
 //! What each call answers where no refusal applies.
-ghost use Rattle.std.specs.Prelude.{◌≡◌, ◌<◌, ◌≤◌, ◌-◌, ◌^◌, not, ℕ, length, take, drop, slice_index_or, List, Bool};
+ghost use Rattle.std.specs.Prelude.{◌≡◌, ◌<◌, ◌≤◌, ◌+◌, ◌-◌, ◌^◌, not, ℕ, length, take, drop, slice_index_or, List, Bool, IfSome};
 ghost use Rattle.sha2.specs.Sha256.{sha256};
 ghost use Rattle.v4l_const.specs.declared.four_cc.FourCc.{FourCc};
 ghost use Rattle.v4l_format.specs.Fmt.{IsAdjusted};
-ghost use Rattle.vm_local.specs.State.{queue_of, buffer_of};
+ghost use Rattle.v4l_rules.specs.Formats.{source_format};
+ghost use Rattle.vm_local.specs.State.{queue_kind, queue_of, buffer_of};
 ghost use Rattle.vm_local.specs.Same.{same_reply, address_in};
-ghost use Rattle.vm_local.specs.Memory.{named, memory_of, bytes_of};
-ghost use Rattle.vm_local.specs.Queue.{adjusted_for, sized_as, first_done, flags_of, flag};
+ghost use Rattle.vm_local.specs.declared.reply.Reply.TheVariants.{Pages};
+ghost use Rattle.vm_local.specs.Memory.{named, memory_of, bytes_of, pages_of};
+ghost use Rattle.vm_local.specs.Queue.{adjusted_for, first_done, flags_of, flag};
 ghost use Rattle.vm_local.specs.Calls.{row_of, format_reply, querycap_row, enumfmt_row, gfmt_row, tryfmt_row, sfmt_row, enuminput_row, ginput_row, sinput_row, reqbufs_row, querybuf_row, ualloc_row, dqbuf_row, mmap_row, read_row, hash_row, dqevent_row, given_back};
 
 use crate::buffer::Buffer;
@@ -16,43 +18,41 @@ use crate::local::Local;
 use crate::name::Name;
 use crate::names::is_mapped;
 use crate::owed::SyncEvent;
-use crate::queue::{FIRST_FORMAT, first_format};
 use crate::reply::Reply;
 use sha2::{Digest, Sha256};
 use v4l_const::{BufFlags, EVENT_FRAME_SYNC, FourCc};
-use v4l_format::{Fmt, adjust, bytesperline, nth_format, sizeimage};
+use v4l_format::{Fmt, bytesperline, nth_format, sizeimage};
+use v4l_rules::{FIRST_FORMAT, adjust_from, first_format};
+use vm_mem::PAGE_SIZE;
 
 /// How many buffers a queue has at most.
 pub(crate) const BUFFER_LIMIT: u32 = 32;
 
-/// How many bytes a page has.
-const PAGE_SIZE: u64 = 4096;
-
 impl Local {
     /// Whether this is the reply of a call that no refusal stops.
-    #[tactic(auto, unfolding(crate::specs::Calls::qbuf_row, crate::specs::Calls::streamon_row, crate::specs::Calls::streamoff_row, crate::specs::Calls::munmap_row, crate::specs::Calls::write_row, crate::specs::Calls::fill_row, crate::specs::Calls::subscribe_row, crate::specs::Calls::unsubscribe_row))]
+    #[tactic(auto, unfolding(crate::specs::Calls::enuminput_row, crate::specs::Calls::ginput_row, crate::specs::Calls::sinput_row, crate::specs::Calls::reqbufs_row, crate::specs::Calls::ualloc_row, crate::specs::Calls::read_row, crate::specs::Calls::qbuf_row, crate::specs::Calls::streamon_row, crate::specs::Calls::streamoff_row, crate::specs::Calls::munmap_row, crate::specs::Calls::write_row, crate::specs::Calls::fill_row, crate::specs::Calls::subscribe_row, crate::specs::Calls::unsubscribe_row))]
     pub(crate) fn answers(&self, call: &Call, reply: &Reply) -> bool
         requires { length self.now.events < 2 ^ 32 - 1 }
         ensures { (line : ℕ) → result ≡ same_reply (row_of self.now line (address_in reply.now) call.now).reply reply.now }
     {
         match call {
-            Call::QueryCap => self.answers_querycap(reply),
-            Call::EnumFmt { t, i } => self.answers_enumfmt(*t, *i, reply),
-            Call::GFmt { t } => self.answers_gfmt(*t, reply),
-            Call::TryFmt { t, f, w, h } | Call::SFmt { t, f, w, h } => self.answers_tryfmt(
-                *t, *f, *w, *h, reply,
-            ),
-            Call::EnumInput { i } => self.answers_enuminput(*i, reply),
-            Call::GInput => self.answers_ginput(reply),
-            Call::SInput { i } => self.answers_sinput(*i, reply),
-            Call::ReqBufs { t, m, n } => self.answers_reqbufs(*t, *m, *n, reply),
-            Call::QueryBuf { t, i } => self.answers_querybuf(*t, *i, reply),
-            Call::UAlloc { u: _, len, off } => self.answers_ualloc(*len, *off, reply),
-            Call::DqBuf { t } => self.answers_dqbuf(*t, reply),
-            Call::Mmap { m: _, t, i, ro: _ } => self.answers_mmap(*t, *i, reply),
-            Call::Peek { m, off, len } => self.answers_read(m, *off, *len, reply),
-            Call::Hash { m } => self.answers_hash(m, reply),
-            Call::DqEvent => self.answers_dqevent(reply),
+            Call::QueryCap => self.capabilities().is(reply),
+            Call::EnumFmt { t, i } => self.code(*t, *i).is(reply),
+            Call::GFmt { t } => self.format(*t).is(reply),
+            Call::TryFmt { t, f, w, h } | Call::SFmt { t, f, w, h } => self
+                .adjusted(*t, *f, *w, *h)
+                .is(reply),
+            Call::EnumInput { i } => Reply::InputName(*i).is(reply),
+            Call::GInput => Reply::InputIs(self.input).is(reply),
+            Call::SInput { i } => Reply::InputIs(*i).is(reply),
+            Call::ReqBufs { t: _, m: _, n } => Reply::Count((*n).min(BUFFER_LIMIT)).is(reply),
+            Call::QueryBuf { t, i } => self.buffer_told(*t, *i).is(reply),
+            Call::UAlloc { u: _, len, off } => pages(*len, *off).is(reply),
+            Call::DqBuf { t } => self.frame(*t).is(reply),
+            Call::Mmap { m: _, t, i, ro: _ } => self.mapping(reply.address(), *t, *i).is(reply),
+            Call::Peek { m, off, len } => reply.is_bytes(self.bytes_read(m, *off, *len)),
+            Call::Hash { m } => self.digest(m).is(reply),
+            Call::DqEvent => self.event().is(reply),
             Call::OpenHandle { .. }
             | Call::CloseHandle
             | Call::QBuf { .. }
@@ -62,132 +62,106 @@ impl Local {
             | Call::Poke { .. }
             | Call::Fill { .. }
             | Call::Subscribe { .. }
-            | Call::Unsubscribe { .. } => reply.is_done(),
+            | Call::Unsubscribe { .. } => Reply::Done.is(reply),
         }
     }
 
     #[tactic(auto, unfolding(crate::specs::Calls::querycap_row))]
-    fn answers_querycap(&self, reply: &Reply) -> bool
-        ensures { result ≡ same_reply (querycap_row self.now).reply reply.now }
+    fn capabilities(&self) -> Reply
+        ensures { result ≡ (querycap_row self.now).reply }
     {
-        reply.is_caps(
-            self.model.capabilities().0,
-            self.model.device_capabilities().0,
-        )
+        Reply::Caps {
+            all: self.model.capabilities().0,
+            device: self.model.device_capabilities().0,
+        }
     }
 
     #[tactic(auto, unfolding(crate::specs::Calls::enumfmt_row))]
-    fn answers_enumfmt(&self, t: u32, i: u32, reply: &Reply) -> bool
-        ensures { result ≡ same_reply (enumfmt_row self.now t i).reply reply.now }
+    fn code(&self, t: u32, i: u32) -> Reply
+        ensures { result ≡ (enumfmt_row self.now t i).reply }
     {
         match nth_format(i) {
-            Some(code) => reply.is_code(code),
-            None => reply.is_code(FIRST_FORMAT.code),
+            Some(code) => Reply::Code(code),
+            None => Reply::Code(FIRST_FORMAT.code),
         }
     }
 
     #[tactic(auto, unfolding(crate::specs::Calls::gfmt_row))]
-    fn answers_gfmt(&self, t: u32, reply: &Reply) -> bool
-        ensures { result ≡ same_reply (gfmt_row self.now t).reply reply.now }
+    fn format(&self, t: u32) -> Reply
+        ensures { result ≡ (gfmt_row self.now t).reply }
     {
-        is_format(&self.format_of(t), reply)
+        format_reply(&self.format_of(t))
     }
 
     #[tactic(auto, unfolding(crate::specs::Calls::tryfmt_row, crate::specs::Calls::sfmt_row))]
-    fn answers_tryfmt(&self, t: u32, f: FourCc, w: u32, h: u32, reply: &Reply) -> bool
-        ensures tryfmt { result ≡ same_reply (tryfmt_row self.now t f w h).reply reply.now }
-        ensures sfmt { result ≡ same_reply (sfmt_row self.now t f w h).reply reply.now }
+    fn adjusted(&self, t: u32, f: FourCc, w: u32, h: u32) -> Reply
+        ensures tryfmt { result ≡ (tryfmt_row self.now t f w h).reply }
+        ensures sfmt { result ≡ (sfmt_row self.now t f w h).reply }
     {
-        is_format(&self.adjusted_for(t, f, w, h), reply)
-    }
-
-    #[tactic(auto, unfolding(crate::specs::Calls::enuminput_row))]
-    fn answers_enuminput(&self, i: u32, reply: &Reply) -> bool
-        ensures { result ≡ same_reply (enuminput_row self.now i).reply reply.now }
-    {
-        reply.is_input_name(i)
-    }
-
-    #[tactic(auto, unfolding(crate::specs::Calls::ginput_row))]
-    fn answers_ginput(&self, reply: &Reply) -> bool
-        ensures { result ≡ same_reply (ginput_row self.now).reply reply.now }
-    {
-        reply.is_input(self.input)
-    }
-
-    #[tactic(auto, unfolding(crate::specs::Calls::sinput_row))]
-    fn answers_sinput(&self, i: u32, reply: &Reply) -> bool
-        ensures { result ≡ same_reply (sinput_row self.now i).reply reply.now }
-    {
-        reply.is_input(i)
-    }
-
-    #[tactic(auto, unfolding(crate::specs::Calls::reqbufs_row))]
-    fn answers_reqbufs(&self, t: u32, m: u32, n: u32, reply: &Reply) -> bool
-        ensures { result ≡ same_reply (reqbufs_row self.now t m n).reply reply.now }
-    {
-        reply.is_count(n.min(BUFFER_LIMIT))
+        format_reply(&self.adjusted_for(t, f, w, h))
     }
 
     #[tactic(auto, unfolding(crate::specs::Calls::querybuf_row))]
-    fn answers_querybuf(&self, t: u32, i: u32, reply: &Reply) -> bool
-        ensures { result ≡ same_reply (querybuf_row self.now t i).reply reply.now }
+    fn buffer_told(&self, t: u32, i: u32) -> Reply
+        ensures { result ≡ (querybuf_row self.now t i).reply }
     {
         let buffer = self.buffer_of(t, i);
-        reply.is_buf(buffer.length, self.flags_of(&buffer))
-    }
-
-    #[tactic(auto, unfolding(crate::specs::Calls::ualloc_row))]
-    fn answers_ualloc(&self, len: u32, off: u32, reply: &Reply) -> bool
-        ensures { (line : ℕ) (u : List ℕ) → result ≡ same_reply (ualloc_row self.now line u len off).reply reply.now }
-    {
-        let end = u64::from(len) + u64::from(off);
-        reply.is_pages(end.div_ceil(PAGE_SIZE) as u32)
+        Reply::Buf {
+            length: buffer.length,
+            flags: self.flags_of(&buffer),
+        }
     }
 
     #[tactic(auto, unfolding(crate::specs::Calls::dqbuf_row))]
-    fn answers_dqbuf(&self, t: u32, reply: &Reply) -> bool
-        ensures { result ≡ same_reply (dqbuf_row self.now t).reply reply.now }
+    fn frame(&self, t: u32) -> Reply
+        ensures { result ≡ (dqbuf_row self.now t).reply }
     {
         let buffer = self.given_back(t);
-        reply.is_frame(
-            self.first_done(t),
-            buffer.used,
-            buffer.sequence,
-            buffer.timestamp,
-            self.flags_of(&buffer),
-        )
+        Reply::Frame {
+            index: self.first_done(t),
+            used: buffer.used,
+            seq: buffer.sequence,
+            ts: buffer.timestamp,
+            flags: self.flags_of(&buffer),
+        }
     }
 
     #[tactic(auto, unfolding(crate::specs::Calls::mmap_row))]
-    fn answers_mmap(&self, t: u32, i: u32, reply: &Reply) -> bool
-        ensures { (m : List ℕ) (ro : Bool) → result ≡ same_reply (mmap_row self.now (address_in reply.now) m t i ro).reply reply.now }
+    fn mapping(&self, addr: u64, t: u32, i: u32) -> Reply
+        ensures { (m : List ℕ) (ro : Bool) → result ≡ (mmap_row self.now addr m t i ro).reply }
     {
-        reply.is_mapped(reply.address(), self.buffer_of(t, i).length)
+        Reply::Mapped {
+            addr,
+            length: self.buffer_of(t, i).length,
+        }
     }
 
-    #[tactic(auto, unfolding(crate::specs::Calls::read_row))]
-    fn answers_read(&self, m: &Name, off: u32, len: u32, reply: &Reply) -> bool
-        ensures { result ≡ same_reply (read_row self.now m.now off len).reply reply.now }
+    /// The bytes that a read gives, also where there are more than a reply can have.
+    fn bytes_read(&self, m: &Name, off: u32, len: u32) -> &[u8]
+        ensures { result.now ≡ take len (drop off (bytes_of self.now (memory_of (named self.now m.now)))) }
     {
-        reply.is_bytes(part(self.bytes_of(self.memory_named(m)), off, len))
+        part(self.bytes_of(self.memory_named(m)), off, len)
     }
 
     #[tactic(auto, unfolding(crate::specs::Calls::hash_row))]
-    fn answers_hash(&self, m: &Name, reply: &Reply) -> bool
-        ensures { result ≡ same_reply (hash_row self.now m.now).reply reply.now }
+    fn digest(&self, m: &Name) -> Reply
+        ensures { result ≡ (hash_row self.now m.now).reply }
     {
-        reply.is_digest(&digest_of(self.bytes_of(self.memory_named(m))))
+        Reply::Digest(digest_of(self.bytes_of(self.memory_named(m))))
     }
 
     #[tactic(auto, unfolding(crate::specs::Calls::dqevent_row))]
-    fn answers_dqevent(&self, reply: &Reply) -> bool
+    fn event(&self) -> Reply
         requires { length self.now.events < 2 ^ 32 - 1 }
-        ensures { result ≡ same_reply (dqevent_row self.now).reply reply.now }
+        ensures { result ≡ (dqevent_row self.now).reply }
     {
         let event = first_event(&self.events);
-        let pending = self.events.len().saturating_sub(1) as u32;
-        reply.is_event(EVENT_FRAME_SYNC, event.frame, pending, event.number)
+        Reply::Event {
+            kind: EVENT_FRAME_SYNC,
+            frame: event.frame,
+            pending: self.events.len().saturating_sub(1) as u32,
+            seq: event.number,
+        }
     }
 
     /// The index of the first done buffer of a queue.
@@ -226,13 +200,17 @@ impl Local {
         ensures value { result ≡ adjusted_for self.now t f w h }
         ensures adjusted { IsAdjusted result }
     {
-        let adjusted = adjust(f, w, h);
+        adjust_from(self.source_format(), self.model, t, f, w, h)
+    }
+
+    /// The format of the source queue, where the model has one.
+    fn source_format(&self) -> Option<Fmt>
+        ensures value { result ≡ source_format queue_kind self.now.model self.now.queues }
+        ensures adjusted { IfSome result IsAdjusted }
+    {
         match self.model.source_queue() {
-            Some(source) if t == self.model.picture_queue() => sized_as(
-                &self.format_of(source),
-                &adjusted,
-            ),
-            _ => adjusted,
+            Some(source) => Some(self.format_of(source)),
+            None => None,
         }
     }
 
@@ -270,26 +248,24 @@ impl Local {
     }
 }
 
-/// Whether a reply is this format.
-fn is_format(f: &Fmt, reply: &Reply) -> bool
+/// A format as a reply.
+fn format_reply(f: &Fmt) -> Reply
     requires { IsAdjusted f.now }
-    ensures { result ≡ same_reply (format_reply f.now) reply.now }
+    ensures { result ≡ format_reply f.now }
 {
-    reply.is_format(*f, bytesperline(f), sizeimage(f))
+    Reply::Format {
+        f: *f,
+        line: bytesperline(f),
+        size: sizeimage(f),
+    }
 }
 
-/// A format with the size of another.
-fn sized_as(size: &Fmt, f: &Fmt) -> Fmt
-    requires size { IsAdjusted size.now }
-    requires adjusted { IsAdjusted f.now }
-    ensures value { result ≡ sized_as size.now f.now }
-    ensures adjusted { IsAdjusted result }
+/// How many pages hold `len` bytes that begin `off` bytes into the first, as a reply.
+fn pages(len: u32, off: u32) -> Reply
+    ensures { result ≡ Pages (pages_of (len + off)) }
 {
-    Fmt {
-        code: f.code,
-        width: size.width,
-        height: size.height,
-    }
+    let end = u64::from(len) + u64::from(off);
+    Reply::Pages(end.div_ceil(u64::from(PAGE_SIZE)) as u32)
 }
 
 /// The first event, one with zeros where there is none.

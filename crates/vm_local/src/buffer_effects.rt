@@ -3,7 +3,7 @@ ghost use Rattle.std.specs.Prelude.{◌≡◌, ◌==◌, List, Option, None, not
 ghost use Rattle.std.specs.List.{filter};
 ghost use Rattle.vm_local.specs.Queue.{queued_buffer, memory_kind};
 ghost use Rattle.vm_local.specs.Calls.{reqbufs_row, qbuf_row, streamon_row, streamoff_row, dqbuf_row};
-ghost use Rattle.vm_local.specs.Log.{first_refusal};
+ghost use Rattle.v4l_rules.specs.Refusals.{first_refusal};
 
 use crate::answers::BUFFER_LIMIT;
 use crate::bound::MemoryKind;
@@ -14,6 +14,7 @@ use crate::name::Name;
 use crate::owed::Owed;
 use v4l_const::MEMORY_USERPTR;
 use v4l_format::sizeimage;
+use v4l_rules::is_source;
 use vm_mem::Memory;
 
 impl Local {
@@ -114,7 +115,7 @@ impl Local {
             memory: memory.or(buffer.memory),
             ..*buffer
         };
-        if self.is_source(t) {
+        if is_source(self.model, t) {
             Buffer {
                 used: if used == 0 { length } else { used },
                 timestamp: u64::from(ts),

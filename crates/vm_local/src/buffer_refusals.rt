@@ -2,9 +2,9 @@
 ghost use Rattle.std.specs.Prelude.{◌≡◌, ℕ, List, ◌∷◌, [], length, Bool, ◌==◌};
 ghost use Rattle.std.specs.List.{list_any};
 ghost use Rattle.vm_local.specs.Memory.{bytes_of};
-ghost use Rattle.vm_local.specs.Queue.{brought, length_from, can_finish, is_owed, is_source};
+ghost use Rattle.vm_local.specs.Queue.{brought, length_from, can_finish, is_owed};
 ghost use Rattle.vm_local.specs.Calls.{reqbufs_row, querybuf_row, ualloc_row, qbuf_row, streamon_row, dqbuf_row, mmap_row, names_no_user, brings_used};
-ghost use Rattle.vm_local.specs.Log.{first_refusal};
+ghost use Rattle.v4l_rules.specs.Refusals.{first_refusal};
 
 use crate::buffer::Buffer;
 use crate::bytes::MEMORY_LIMIT;
@@ -13,6 +13,7 @@ use crate::name::Name;
 use crate::owed::Owed;
 use v4l_const::{Errno, MEMORY_MMAP, MEMORY_USERPTR};
 use v4l_format::sizeimage;
+use v4l_rules::is_source;
 
 /// The last place of a page.
 const PAGE_END: u32 = 4095;
@@ -161,7 +162,7 @@ impl Local {
         if user.is_some() && length < sizeimage(&queue.format()) {
             return Some(Errno::Einval);
         }
-        if self.brings_used(memory) || (self.is_source(t) && used > length) {
+        if self.brings_used(memory) || (is_source(self.model, t) && used > length) {
             return Some(Errno::Einval);
         }
         None
@@ -172,16 +173,6 @@ impl Local {
         ensures { result ≡ is_owed self.now t }
     {
         has_owed(&self.owed, t)
-    }
-
-    /// Whether the device reads a queue's buffers.
-    pub(crate) fn is_source(&self, t: u32) -> bool
-        ensures { result ≡ is_source self.now t }
-    {
-        match self.model.source_queue() {
-            Some(source) => source == t,
-            None => false,
-        }
     }
 
     /// The number of the user memory that a `qbuf` names.

@@ -1,7 +1,8 @@
 //! What the calls on mappings and their bytes do.
 ghost use Rattle.std.specs.Prelude.{◌≡◌, ◌+◌, ◌≤◌, ◌++◌, [], length, take, drop, slice_index_or, slice_set, None, OnErr, OnOk};
-ghost use Rattle.vm_local.specs.Calls.{ualloc_row, mmap_row, munmap_row, write_row, fill_row, seeded};
-ghost use Rattle.vm_local.specs.Log.{first_refusal};
+ghost use Rattle.vm_local.specs.Calls.{ualloc_row, mmap_row, munmap_row, write_row, fill_row};
+ghost use Rattle.v4l_rules.specs.Refusals.{first_refusal};
+ghost use Rattle.vm_mem.specs.Seeded.{seeded};
 
 use crate::bound::{Bound, BoundKind};
 use crate::bytes::Bytes;

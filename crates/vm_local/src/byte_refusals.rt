@@ -2,7 +2,7 @@
 ghost use Rattle.std.specs.Prelude.{◌≡◌, ℕ, List, length};
 ghost use Rattle.vm_local.specs.Memory.{named, is_mapping, is_user, is_writable, memory_of, bytes_of};
 ghost use Rattle.vm_local.specs.Calls.{munmap_row, read_row, hash_row, write_row, fill_row};
-ghost use Rattle.vm_local.specs.Log.{first_refusal};
+ghost use Rattle.v4l_rules.specs.Refusals.{first_refusal};
 
 use crate::local::Local;
 use crate::name::Name;

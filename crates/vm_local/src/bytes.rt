@@ -1,6 +1,6 @@
 ghost use Rattle.std.specs.Prelude.{◌≡◌, ◌+◌, ◌≤◌, ◌++◌, ◌-◌, length, take, drop, replicate, IfOk};
 ghost use Rattle.std.specs.Vec.{vec_len};
-ghost use Rattle.vm_local.specs.Calls.{seeded};
+ghost use Rattle.vm_mem.specs.Seeded.{seeded};
 
 use std::alloc::Global;
 use std::marker::Model;

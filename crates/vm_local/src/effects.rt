@@ -2,7 +2,7 @@
 ghost use Rattle.std.specs.Prelude.{◌≡◌, ℕ, List, Bool, Option, None, OnErr, OnOk, not};
 ghost use Rattle.v4l_const.specs.declared.four_cc.FourCc.{FourCc};
 ghost use Rattle.vm_local.specs.Calls.{row_of, opened_anew, closed};
-ghost use Rattle.vm_local.specs.Log.{first_refusal};
+ghost use Rattle.v4l_rules.specs.Refusals.{first_refusal};
 
 use crate::call::Call;
 use crate::local::Local;

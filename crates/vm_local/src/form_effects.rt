@@ -1,7 +1,7 @@
 //! What the calls on handles, formats, inputs and events do.
 ghost use Rattle.std.specs.Prelude.{◌≡◌, ℕ, None, drop};
 ghost use Rattle.vm_local.specs.Calls.{opened_anew, closed, sfmt_row, sinput_row, subscribe_row, unsubscribe_row, dqevent_row};
-ghost use Rattle.vm_local.specs.Log.{first_refusal};
+ghost use Rattle.v4l_rules.specs.Refusals.{first_refusal};
 
 use crate::local::Local;
 use crate::owed::SyncEvent;

@@ -2,14 +2,11 @@
 ghost use Rattle.std.specs.Prelude.{◌≡◌, ℕ};
 ghost use Rattle.v4l_const.specs.declared.four_cc.FourCc.{FourCc};
 ghost use Rattle.vm_local.specs.Calls.{close_row, querycap_row, enumfmt_row, gfmt_row, tryfmt_row, sfmt_row, enuminput_row, ginput_row, sinput_row, streamoff_row, subscribe_row, unsubscribe_row, dqevent_row};
-ghost use Rattle.vm_local.specs.Log.{first_refusal};
+ghost use Rattle.v4l_rules.specs.Refusals.{first_refusal};
 
 use crate::local::Local;
-use v4l_const::{EVENT_ALL, EVENT_FRAME_SYNC, Errno};
+use v4l_const::{EVENT_ALL, EVENT_FRAME_SYNC, Errno, INPUT_COUNT};
 use v4l_format::nth_format;
-
-/// How many inputs a device with inputs has.
-const INPUT_COUNT: u32 = 4;
 
 impl Local {
     /// The refusals of `close` and `querycap`.

@@ -3,16 +3,18 @@ ghost use Rattle.std.specs.Prelude.{◌≡◌, ◌≤◌, ◌<◌, ◌++◌, [],
 ghost use Rattle.std.specs.Vec.{vec_len};
 ghost use Rattle.v4l_const.specs.Model.{queues as types_of, source_queue, picture_queue};
 ghost use Rattle.v4l_format.specs.Fmt.{IsAdjusted, picture_size};
-ghost use Rattle.vm_local.specs.State.{queue_of, place_in};
+ghost use Rattle.v4l_rules.specs.Queues.{place_in};
+ghost use Rattle.vm_local.specs.State.{queue_of};
 ghost use Rattle.vm_local.specs.Steps.{head, head_buffer, number_of, target, next_picture, next_timestamp, picture_from, sync_of, buffers_taken};
 
 use crate::buffer::Buffer;
 use crate::buffers::NO_BUFFER;
 use crate::bytes::Bytes;
-use crate::local::{Local, place_in};
+use crate::local::Local;
 use crate::owed::{Owed, OwedItem};
 use crate::pictures::{converted_picture, pattern_picture};
 use v4l_format::{Fmt, sizeimage};
+use v4l_rules::place_in;
 use vm_mem::Memory;
 
 /// The microseconds from one frame to the next.

@@ -1,4 +1,4 @@
-ghost use Rattle.std.specs.Prelude.{◌≡◌, ℕ, List, [], ◌∷◌, ◌++◌, Bool, false, if◌then◌else◌, Some, None};
+ghost use Rattle.std.specs.Prelude.{◌≡◌, ℕ, ◌+◌, ◌≤◌, List, [], ◌∷◌, ◌++◌, length, Bool, true, false, if◌then◌else◌, Some, None};
 ghost use Rattle.std.specs.Option.{option_and_then};
 ghost use Rattle.v4l_const.specs.declared.errno.Errno.TheVariants.{Enomem, Ebadf};
 ghost use Rattle.v4l_const.specs.declared.errno.Errno.{Errno};
@@ -13,6 +13,10 @@ ghost use Rattle.vm_local.specs.declared.reply.Reply.TheVariants.{Done, Refused}
 ghost use Rattle.vm_local.specs.State.{LocalState};
 ghost use Rattle.vm_local.specs.Calls.{opened_anew, closed};
 ghost use Rattle.vm_local.specs.Log.{called, after, replay_from};
+ghost use Rattle.vm_local.specs.Replays.{EachReplay};
+ghost use Rattle.vm_local.specs.Listed.{AreListed, AreThere};
+ghost use Rattle.vm_local.specs.Live.{AreBacked, IsMade, is_live};
+ghost use Rattle.vm_local.specs.Opens.{NeverOpens};
 
 /// The replay of a log and a further one is the replay of the further one, from where the first one leads.
 #[tactic(auto, using(crate::proofs::LogLemmas::replay_from_append))]
@@ -34,10 +38,36 @@ pub fn refusals_change_nothing()
     ensures { (s : LocalState) (line : ℕ) (call : Call) (e : Errno) (t : LocalState) → called s line call (Refused e) ≡ Some t → t ≡ s }
 {}
 
-/// The owner of a buffer changes only at `qbuf`, `dqbuf`, `streamoff`, `reqbufs`, `close`, `open` and the steps of the
-/// device; and `open` comes first in the log of a handle that is opened once.
+/// No buffer has an owner after a log without an `open` that was done.
+pub fn no_owner_before_opening()
+    ensures { EachReplay (λ log s. NeverOpens log → (t i : ℕ) → owner_of s t i ≡ None) }
+{}
+
+/// The owner of a buffer changes only at `qbuf`, `dqbuf`, `streamoff`, `reqbufs`, `close`, `open` and the
+/// steps of the device. An `open` that is done gives the opening state from whatever state it comes to; in
+/// the log of a script's handle it comes first.
 pub fn owners_move_at_few_entries()
     ensures { (s t : LocalState) (e : Entry) → moves e ≡ false → after s e ≡ Some t → (k i : ℕ) → owner_of t k i ≡ owner_of s k i }
+{}
+
+/// After a legal log a buffer is Queued, Owed or Done exactly where its queue's queued list, the owed list
+/// or its queue's done list has it, and that list has it once; and the lists have no other buffers.
+pub fn lists_have_each_buffer_once()
+    ensures once { EachReplay (λ log s. AreListed s) }
+    ensures there { EachReplay (λ log s. AreThere s) }
+{}
+
+/// After a legal log each memory number that a buffer or a name has is that of one of the memories that
+/// were made, and so each live memory's is.
+pub fn live_memories_are_made()
+    ensures backed { EachReplay (λ log s. AreBacked s) }
+    ensures live { EachReplay (λ log s. (n : ℕ) → is_live s n ≡ true → IsMade s n) }
+{}
+
+/// An entry lists at most one event more, and so a log at most as many as it has entries.
+pub fn few_events_more()
+    ensures entry { (s t : LocalState) (e : Entry) → after s e ≡ Some t → length t.events ≤ length s.events + 1 }
+    ensures log { EachReplay (λ log s. length s.events ≤ length log) }
 {}
 
 /// Two replies are tested to be the same exactly where they are equal.

@@ -38,6 +38,7 @@ pub use buffer::{Buffer, BufferState};
 pub use call::Call;
 pub use entry::Entry;
 pub use laws::{
+    few_events_more, lists_have_each_buffer_once, live_memories_are_made, no_owner_before_opening,
     open_and_close, owners_move_at_few_entries, refusals_change_nothing, replay_of_an_append,
     same_replies_are_equal,
 };

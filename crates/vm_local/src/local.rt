@@ -1,6 +1,7 @@
 ghost use Rattle.std.specs.Prelude.{◌≡◌, ◌<◌, ◌≤◌, length, IfSome, IfNone, is_some};
 ghost use Rattle.v4l_const.specs.Model.{queues as types_of};
-ghost use Rattle.vm_local.specs.State.{opening, opening_queue, place_in, has_type, queue_of};
+ghost use Rattle.v4l_rules.specs.Queues.{place_in, has_type};
+ghost use Rattle.vm_local.specs.State.{opening, opening_queue, queue_of};
 ghost use Rattle.vm_local.specs.Memory.{named};
 
 use crate::bound::Bound;
@@ -12,6 +13,7 @@ use crate::queue::Queue;
 use crate::queues::Queues;
 use std::alloc::Global;
 use std::marker::Model;
+use v4l_rules::place_in;
 
 /// One V4L2 handle as a process alone on a machine would see it: the plain slow machine.
 #[derive(Drop)]
@@ -76,9 +78,16 @@ impl Local {
         }
     }
 
+    /// How many events are listed: those that the guest has yet to take.
+    pub fn events_listed(&self) -> usize
+        ensures { result ≡ length self.now.events }
+    {
+        self.events.len()
+    }
+
     /// The place of the queue with this buffer type, where the model has it.
     pub(crate) fn place_of(&self, t: u32) -> Option<usize>
-        ensures has { is_some result ≡ has_type self.now t }
+        ensures has { is_some result ≡ has_type self.now.model t }
         ensures place { IfSome result (λ p. p ≡ place_in (types_of self.now.model) t) }
         ensures within { IfSome result (λ p. p < length self.now.queues) }
         ensures absent { IfNone result (length self.now.queues ≤ place_in (types_of self.now.model) t) }
@@ -95,7 +104,7 @@ impl Local {
     /// The queue with this buffer type.
     #[tactic(auto, using(std::proofs::lemmas::List::get_or_past))]
     pub(crate) fn queue(&self, t: u32) -> Option<&Queue>
-        ensures has { is_some result ≡ has_type self.now t }
+        ensures has { is_some result ≡ has_type self.now.model t }
         ensures value { IfSome result (λ q. q.now ≡ queue_of self.now t) }
         ensures absent { IfNone result (queue_of self.now t ≡ opening_queue) }
     {
@@ -109,16 +118,4 @@ impl Local {
     {
         named_in(&self.bound, name)
     }
-}
-
-/// The place of a buffer type, behind them all where it is none of them.
-pub(crate) fn place_in(types: &[u32], t: u32) -> usize
-    ensures { result ≡ place_in types.now t }
-{
-    for (place, kind) in types.iter().enumerate() {
-        if *kind == t {
-            return place;
-        }
-    }
-    types.len()
 }

@@ -7,13 +7,14 @@ use std::marker::Model;
 /// How many bytes a name has at most.
 pub const NAME_LIMIT: usize = 8;
 
-/// The name by which a script's line speaks of a handle, a mapping or user memory: 1 to 8 bytes.
+/// The name by which a script's line speaks of a handle, a mapping or user memory: the first `len` of `bytes`, 1 to 8.
+/// Zeros stand behind them. Contracts see a name as the list of its bytes.
 ///
-/// Source: own. Contracts see a name as the list of its bytes.
+/// Source: own.
 #[derive(Clone, Copy, Debug, PartialEq, Eq)]
 pub struct Name {
-    len: u8,
-    bytes: [u8; 8],
+    pub len: u8,
+    pub bytes: [u8; 8],
 }
 
 impl Model for Name {

@@ -1,7 +1,7 @@
 ghost use Rattle.std.specs.Prelude.{◌≡◌, ℕ, List, ◌∷◌, [], ◌++◌, map, ◌&&◌, not, nat_lt, length, OnErr, OnOk};
 ghost use Rattle.v4l_format.specs.Fmt.{IsAdjusted};
 ghost use Rattle.vm_local.specs.Sizes.{resized};
-ghost use Rattle.vm_local.specs.State.{first_format, opening_queue, buffer_of, with_buffer};
+ghost use Rattle.vm_local.specs.State.{opening_queue, buffer_of, with_buffer};
 ghost use Rattle.vm_local.specs.Queue.{stopped_queue, made_idle, started, taken_back, first_done, is_empty, is_user_ptr};
 ghost use Rattle.std.specs.List.{list_any};
 ghost use Rattle.vm_local.specs.Memory.{is_just};
@@ -15,24 +15,9 @@ use crate::buffers::{buffer_at, first_of, lends, make_idle, remove_first, set_bu
 use std::alloc::Global;
 use std::default::MadeWith;
 use std::marker::Model;
-use v4l_const::FourCc;
 use v4l_format::Fmt;
+use v4l_rules::{first_format, sized_as};
 use vm_mem::Memory;
-
-/// GREY 64 by 48, the format that a queue begins with.
-pub const FIRST_FORMAT: Fmt = Fmt {
-    code: FourCc(0x5945_5247),
-    width: 64,
-    height: 48,
-};
-
-/// The format that a queue begins with, which is an adjusted one.
-pub fn first_format() -> Fmt
-    ensures value { result ≡ first_format }
-    ensures adjusted { IsAdjusted result }
-{
-    FIRST_FORMAT
-}
 
 /// One queue of a handle.
 #[derive(Drop)]
@@ -79,7 +64,7 @@ impl Queue {
         ensures { result ≡ opening_queue }
     {
         Queue {
-            format: FIRST_FORMAT,
+            format: first_format(),
             memory: MemoryKind::Mmap,
             buffers: Vec::new(alloc),
             streaming: false,
@@ -214,11 +199,7 @@ impl Queue {
         requires { IsAdjusted format }
         ensures { self.new ≡ resized format self.old }
     {
-        self.format = Fmt {
-            code: self.format.code,
-            width: format.width,
-            height: format.height,
-        };
+        self.format = sized_as(&format, &self.format);
     }
 
     /// Stops the queue: its buffers are Idle, and it has no queued and no done ones.

@@ -1,7 +1,7 @@
 //! The refusals of each call, in the order in which they are tried.
 ghost use Rattle.std.specs.Prelude.{◌≡◌, ℕ};
 ghost use Rattle.vm_local.specs.Calls.{row_of};
-ghost use Rattle.vm_local.specs.Log.{first_refusal};
+ghost use Rattle.v4l_rules.specs.Refusals.{first_refusal};
 
 use crate::call::Call;
 use crate::local::Local;

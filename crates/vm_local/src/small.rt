@@ -6,13 +6,14 @@ use std::marker::Model;
 /// How many bytes one read or write carries at most.
 pub const SMALL_LIMIT: usize = 256;
 
-/// The bytes of one read or write: at most 256.
+/// The bytes of one read or write: the first `len` of `bytes`, at most 256. Zeros stand behind them. Contracts see them
+/// as the list of those bytes.
 ///
-/// Source: own. Contracts see them as the list of its bytes.
+/// Source: own.
 #[derive(Clone, Copy, Debug, PartialEq, Eq)]
 pub struct Small {
-    len: u16,
-    bytes: [u8; 256],
+    pub len: u16,
+    pub bytes: [u8; 256],
 }
 
 impl Model for Small {

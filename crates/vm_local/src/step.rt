@@ -36,9 +36,9 @@ impl Local {
         ensures err { OnErr result (self.new ≡ self.old) }
     {
         if let Some(errno) = self.refusal(call) {
-            return Ok(reply.is_refused(errno));
+            return Ok(Reply::Refused(errno).is(reply));
         }
-        if may_lack_memory(call) && reply.is_refused(Errno::Enomem) {
+        if may_lack_memory(call) && Reply::Refused(Errno::Enomem).is(reply) {
             return Ok(true);
         }
         if self.waits(call) || !self.answers(call, reply) {

@@ -9,6 +9,7 @@ mod buffers;
 mod bytes;
 mod capture;
 mod convert;
+mod failed;
 mod forms;
 
 const CAP: u32 = BUF_TYPE_CAPTURE;
@@ -70,5 +71,5 @@ fn first_refused_with(
 
 /// Makes a step, and says whether it was legal.
 fn is_legal(local: &mut Local, entry: &Entry) -> bool {
-    local.events.len() < EVENT_LIMIT && local_step(local, entry) == Ok(true)
+    local.events_listed() < EVENT_LIMIT && local_step(local, entry) == Ok(true)
 }

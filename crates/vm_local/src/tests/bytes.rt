@@ -1,5 +1,5 @@
 use super::{CAP, GREY, first_refused, first_refused_with, name, small};
-use crate::{Call, Entry, Reply};
+use crate::{Call, Entry, Name, Reply, Small};
 use std::test::Fail;
 use v4l_const::{Errno, MEMORY_MMAP, MEMORY_USERPTR, Model};
 use v4l_format::Fmt;
@@ -595,5 +595,27 @@ fn user_memory(rt: HostRuntime) -> Result<(), Fail> {
             "at {place}"
         );
     }
+    Ok(())
+}
+
+/// Names and the bytes of a read are made, and taken apart, by their fields.
+#[test]
+fn names_and_bytes_by_field(rt: HostRuntime) -> Result<(), Fail> {
+    let made = Name {
+        len: 2,
+        bytes: [b'm', b'1', 0, 0, 0, 0, 0, 0],
+    };
+    assert_eq!(rt; made, name(b"m1"));
+    let Name { len, bytes } = name(b"d");
+    assert_eq!(rt; len, 1);
+    assert_eq!(rt; bytes, [b'd', 0, 0, 0, 0, 0, 0, 0]);
+    let zeros = Small {
+        len: 3,
+        bytes: [0; 256],
+    };
+    assert_eq!(rt; zeros, small(&[0, 0, 0]));
+    let Small { len, bytes } = small(&[0x09, 0x10]);
+    assert_eq!(rt; len, 2);
+    assert!(rt; bytes[..3] == [0x09, 0x10, 0]);
     Ok(())
 }

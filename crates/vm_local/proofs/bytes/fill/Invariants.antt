@@ -1,5 +1,5 @@
 use Rattle.std.proofs.Common.{◌≡◌, take}
-use Rattle.vm_local.specs.Calls.{seeded}
+use Rattle.vm_mem.specs.Seeded.{seeded}
 use Rattle.vm_local.proofs.bytes.fill.Given as goal
 
 abbrev pub invariant-loop-i : goal.invariant-loop-i

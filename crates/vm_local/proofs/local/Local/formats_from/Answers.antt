@@ -1,6 +1,6 @@
 use Rattle.std.proofs.Common.{ap}
 use Rattle.vm_local.specs.State.{LocalState}
-use Rattle.vm_local.proofs.ModelLemmas.{source_within, target_within}
+use Rattle.v4l_rules.proofs.ModelLemmas.{source_within, target_within}
 use Rattle.vm_local.proofs.local.Local.formats_from.Goals as goal
 
 pub formats-requires-clause-first : goal.formats-requires-clause-first

@@ -1,4 +1,4 @@
-use Rattle.vm_local.proofs.ModelLemmas.{types_most}
+use Rattle.v4l_rules.proofs.ModelLemmas.{types_most}
 use Rattle.vm_local.proofs.queues.Queues.new.Goals as goal
 
 pub begun-requires : goal.begun-requires

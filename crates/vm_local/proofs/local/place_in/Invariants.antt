@@ -1,6 +1,0 @@
-use Rattle.std.proofs.Common.{◌≡◌, ◌+◌, drop}
-use Rattle.vm_local.specs.State.{place_in}
-use Rattle.vm_local.proofs.local.place_in.Given as goal
-
-abbrev pub invariant-loop-place : goal.invariant-loop-place
-invariant-loop-place l = place_in l.types l.t ≡ place_in (drop l.place l.types) l.t + l.place
