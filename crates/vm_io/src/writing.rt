@@ -22,6 +22,8 @@ impl From<Failed> for WriteFault {
 pub fn write_all<K: Sink>(sink: &mut K, bytes: &[u8]) -> Result<(), WriteFault>
     ensures all { OnOk result (WasAppended (K.held sink.old) (K.held sink.new) bytes.now) }
     ensures part { OnErr result (PartAppended (K.held sink.old) (K.held sink.new) bytes.now) }
+    // No write failed before all bytes had gone out: so none is tried again.
+    ensures well { OnOk result (K.faults sink.new ≡ K.faults sink.old) }
     ensures fault { OnErr result (Rose (K.faults sink.old) (K.faults sink.new)) }
     ensures count { K.faults sink.old ≤ K.faults sink.new }
 {

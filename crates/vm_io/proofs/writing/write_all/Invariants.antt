@@ -1,5 +1,5 @@
--- What was written so far stands behind what the sink held.
-use Rattle.std.proofs.Common.{◌≤◌, ◌-◌, length, take}
+-- What was written so far stands behind what the sink held, and no write failed.
+use Rattle.std.proofs.Common.{◌≡◌, ◌≤◌, ◌-◌, length, take}
 use Rattle.vm_io.specs.Bytes.{WasAppended}
 use Rattle.vm_io.proofs.writing.write_all.Given as goal
 
@@ -7,7 +7,7 @@ abbrev pub invariant-pieces : goal.invariant-pieces
 invariant-pieces g l = record {
   appended : WasAppended (g.K.Sink.held l.fn.sink) (g.K.Sink.held l.sink) (take l.written l.bytes);
   within : l.written ≤ length l.bytes;
-  count : g.K.Sink.faults l.fn.sink ≤ g.K.Sink.faults l.sink;
+  well : g.K.Sink.faults l.sink ≡ g.K.Sink.faults l.fn.sink;
 }
 
 abbrev pub decreases-pieces : goal.decreases-pieces
