@@ -1,5 +1,6 @@
 pub mod FormLemmas
 pub mod LineLemmas
+pub mod NameLemmas
 pub mod NumberLemmas
 pub mod ReaderLemmas
 pub mod ScriptLemmas

@@ -1,11 +1,8 @@
 -- Pieces, words and echoes of lists of bytes.
-use Rattle.std.proofs.Common.{◌≡◌, ℕ, suc, cond, ltb, not, Option, Some, None, if◌then◌else◌, ◌+◌, ◌<◌, Bool, true, false, List, [], ◌∷◌, ◌++◌, map, take, get_or, length, Bor, refl, ap, sym, ◌∙◌, arith, tests, eqb, append_assoc}
-use Rattle.std.specs.List.{slice_split, onto_first as std_onto_first, join_with_byte, position_or_len}
-use Rattle.std.specs.Str.{bytes_eq}
+use Rattle.std.proofs.Common.{◌≡◌, ℕ, ◌+◌, ◌<◌, Bool, List, [], ◌∷◌, ◌++◌, map, take, get_or, length, Bor, refl, sym, arith, tests, eqb, append_assoc}
+use Rattle.std.specs.List.{slice_split, onto_first as std_onto_first, join_with_byte}
 use Rattle.std.proofs.lemmas.List.{take_more, map-append, length-map, length-take}
-use Rattle.std.proofs.lemmas.Bool.Decides.{nat_tests}
 use Rattle.vm_script.specs.Words.{pieces_by, onto_first, is_empty}
-use Rattle.vm_script.specs.Grammar.{place_from}
 
 onto_first_same : (b : ℕ) (pieces : List (List ℕ)) → std_onto_first b pieces ≡ onto_first b pieces
 onto_first_same b [] = refl
@@ -36,32 +33,3 @@ join_more c ws i d h k =
     let some : 0 < length (map shown (take i ws)) = simp (length-map, length-take) (omega arith) in
     let e : map shown (take (i + 1) ws) ≡ map shown (take i ws) ++ shown (get_or ws i d) ∷ [] = rw (take_more ws i d k, map-append shown (take i ws) (get_or ws i d ∷ [])) refl in
     rw e (join_push c (map shown (take i ws)) (shown (get_or ws i d)) some)
-
--- ---- the place of a name
-
-zero_added : (at : ℕ) → at + 0 ≡ at
-zero_added at = omega arith
-
-one_before : (at n : ℕ) → at + 1 + n ≡ at + (1 + n)
-one_before at n = omega arith
-
-zero_below : (m : ℕ) → ltb 0 (suc m) ≡ true
-zero_below m = grind (arith, nat_tests)
-
-both_more : (n m : ℕ) → ltb (1 + n) (suc m) ≡ ltb n m
-both_more n m = grind (arith, nat_tests)
-
-place_cons : (test : Bool) (at n m : ℕ) (o : Option ℕ) → cond (ltb n m) (Some (at + 1 + n)) None ≡ o → cond (ltb (cond (not test) (1 + n) 0) (suc m)) (Some (at + cond (not test) (1 + n) 0)) None ≡ (if test then Some at else o)
-place_cons true at n m o h = rw (zero_below m) (ap Some (zero_added at))
-place_cons false at n m o h = rw (both_more n m, ← one_before at n) h
-
-place_by_position : (word : List ℕ) (at : ℕ) (names : List (List ℕ)) → cond (ltb (position_or_len (λ name. bytes_eq name word) names) (length names)) (Some (at + position_or_len (λ name. bytes_eq name word) names)) None ≡ place_from at word names
-place_by_position word at [] = refl
-place_by_position word at (name ∷ names) = place_cons (bytes_eq name word) at _ _ _ (place_by_position word (at + 1) names)
-
-from_zero : (test : Bool) (n : ℕ) → cond test (Some n) None ≡ cond test (Some (0 + n)) None
-from_zero true n = let e : n ≡ 0 + n = omega arith in ap Some e
-from_zero false n = refl
-
-pub position_is_place : (word : List ℕ) (names : List (List ℕ)) → cond (ltb (position_or_len (λ name. bytes_eq name word) names) (length names)) (Some (position_or_len (λ name. bytes_eq name word) names)) None ≡ place_from 0 word names
-position_is_place word names = from_zero _ _ ∙ place_by_position word 0 names

@@ -40,7 +40,7 @@ found_from : (word : List ℕ) (at : ℕ) (names : List (List ℕ)) (h : ℕ) �
 found_from word at [] h g = absurd (cc)
 found_from word at (name ∷ names) h g = found_cons word at name names h (bytes_eq name word) refl (found_from word (at + 1) names h) g
 
-place_within : (word : List ℕ) (names : List (List ℕ)) (h : ℕ) → place_from 0 word names ≡ Some h → h < length names
+pub place_within : (word : List ℕ) (names : List (List ℕ)) (h : ℕ) → place_from 0 word names ≡ Some h → h < length names
 place_within word names h g = let f : IsFound word 0 names h = found_from word 0 names h g in let e : h ≡ 0 + f.0 = f.1 in let l : f.0 < length names = f.2 in omega arith
 
 place_name : (word : List ℕ) (names : List (List ℕ)) (h : ℕ) → place_from 0 word names ≡ Some h → get_or names h [] ≡ word

@@ -1,5 +1,6 @@
 pub mod Grammar
 pub mod Lines
+pub mod Names
 pub mod Reading
 pub mod Script
 pub mod Statements

@@ -1,11 +1,13 @@
 //! Scripts: the lines that processes give to their handles.
 #![tactic(auto)]
 
+mod draft;
 mod echo;
 mod fault;
 mod forms;
 mod laws;
 mod line;
+mod names;
 mod number;
 mod reader;
 mod script;

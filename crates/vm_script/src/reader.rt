@@ -1,19 +1,18 @@
 //! The reader of scripts.
 
-ghost use Rattle.std.specs.Prelude.{◌≡◌, ◌+◌, ◌-◌, ◌^◌, ◌<◌, ◌≤◌, length, map, IfOk, IfSome};
+ghost use Rattle.std.specs.Prelude.{◌≡◌, ◌+◌, ◌-◌, ◌^◌, ◌<◌, ◌≤◌, length, map, IfOk};
 ghost use Rattle.vm_script.specs.Words.{is_comment};
-ghost use Rattle.vm_script.specs.Grammar.{place_from, declares, handle_for, placed_in, with_statement, with_words, at_line, with_line, script_of};
+ghost use Rattle.vm_script.specs.Grammar.{declares, handle_for, placed_in, with_statement, with_words, at_line, with_line, script_of};
 ghost use Rattle.vm_script.specs.Reading.{Gives, Becomes};
 
+use crate::draft::Draft;
 use crate::forms::Statement;
 use crate::statement::statement_of;
 use crate::words::{echo_of, words_in};
-use crate::{
-    Line, LineKind, Process, STATEMENT_LIMIT, Script, ScriptError, ScriptFault, ScriptKind,
-};
+use crate::{Line, LineKind, STATEMENT_LIMIT, Script, ScriptError, ScriptFault, ScriptKind};
 use std::alloc::Global;
 use v4l_const::Model as DeviceModel;
-use vm_local::{Call, Name};
+use vm_local::Call;
 use vm_mem::Memory;
 
 const NEWLINE: u8 = b'\n';
@@ -25,16 +24,6 @@ fn is_comment(line: &[u8]) -> bool
     ensures { result ≡ is_comment line.now }
 {
     line.first() == Some(&COMMENT)
-}
-
-/// The place of the first name that is this one.
-fn place_of(names: &[Name], name: &Name) -> Option<usize>
-    ensures place { result ≡ place_from 0 name.now names.now }
-    ensures within { IfSome result (λ place. place < length names.now) }
-{
-    names
-        .iter()
-        .position(|other| other.as_bytes() == name.as_bytes())
 }
 
 /// Whether the call declares its handle's name.
@@ -49,14 +38,14 @@ fn declares(call: &Call) -> bool
 /// # Errors
 /// `TooManyLines` where the process has all lines that it may have, else `OpenTwice` for a name that was declared
 /// before, and `NotDeclared` for one that was not.
-fn handle_of(process: &Process, statement: &Statement) -> Result<u32, ScriptKind>
+fn handle_of(process: &Draft, statement: &Statement) -> Result<u32, ScriptKind>
     requires { length process.now.handles ≤ length process.now.lines }
     ensures { result ≡ handle_for process.now statement.now }
 {
     if process.lines.len() >= STATEMENT_LIMIT {
         return Err(ScriptKind::TooManyLines);
     }
-    let place = place_of(&process.handles, &statement.handle);
+    let place = process.handles.place_of(&statement.handle);
     if declares(&statement.call) {
         match place {
             None => Ok(process.handles.len() as u32),
@@ -74,7 +63,7 @@ fn handle_of(process: &Process, statement: &Statement) -> Result<u32, ScriptKind
 /// `Memory` where there is none for the line.
 fn add_line(
     alloc: Global,
-    process: &mut Process,
+    process: &mut Draft,
     number: u32,
     words: &[&[u8]],
     statement: Statement,
@@ -96,7 +85,7 @@ fn add_line(
 ///
 /// # Errors
 /// The line's first fault.
-fn placed_of(process: &Process, words: &[&[u8]]) -> Result<(Statement, u32), ScriptKind>
+fn placed_of(process: &Draft, words: &[&[u8]]) -> Result<(Statement, u32), ScriptKind>
     requires { length process.now.handles ≤ length process.now.lines }
     ensures { result ≡ placed_in process.now (map (λ word. word.now) words.now) }
 {
@@ -111,7 +100,7 @@ fn placed_of(process: &Process, words: &[&[u8]]) -> Result<(Statement, u32), Scr
 /// `Fault` where the line is faulty, `Memory` where there is none for it.
 fn add_words(
     alloc: Global,
-    process: &mut Process,
+    process: &mut Draft,
     number: u32,
     words: &[&[u8]],
 ) -> Result<(), ScriptError>
@@ -134,7 +123,7 @@ fn add_words(
 /// `Fault` where the line is faulty, `Memory` where there is none for it.
 fn read_line(
     alloc: Global,
-    process: &mut Process,
+    process: &mut Draft,
     number: u32,
     line: &[u8],
 ) -> Result<(), ScriptError>
@@ -161,17 +150,16 @@ pub fn read_script(alloc: Global, bytes: &[u8]) -> Result<Script, ScriptError>
     requires { length bytes.now < 2 ^ 32 - 1 }
     ensures { Gives (script_of bytes.now) result }
 {
-    let mut process = Process {
-        handles: Vec::new(alloc),
-        lines: Vec::new(alloc),
-    };
+    let mut process = Draft::new(alloc);
     let mut number = 0;
     for line in bytes.split(|byte| *byte == NEWLINE) {
         number += 1;
         read_line(alloc, &mut process, number, line)?;
     }
     let mut processes = Vec::new(alloc);
-    processes.push(process).map_err(|_| ScriptError::Memory)?;
+    processes
+        .push(process.finish())
+        .map_err(|_| ScriptError::Memory)?;
     Ok(Script {
         model: DeviceModel::Capture,
         processes,
