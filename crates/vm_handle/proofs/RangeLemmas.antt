@@ -1,6 +1,7 @@
 -- Every entry of a log keeps the model, and keeps the numbers of the state in their range.
-use Rattle.std.proofs.Common.{◌≡◌, inl, inr, ◌++◌, ℕ, zero, suc, Bool, true, false, List, [], ◌∷◌, get_or, set, map, length, Option, Some, None, IsSome, refl, sym, ◌∙◌, subst, not, ◌&&◌, if◌then◌else◌, nat_lt, lit≤, lit<, unwrap_or, eqb, arith}
-use Rattle.std.specs.Option.{option_and_then}
+use Rattle.std.proofs.Common.{◌≡◌, inl, inr, ◌++◌, ℕ, zero, suc, Bool, true, false, List, [], ◌∷◌, get_or, set, map, length, Option, Some, None, IsSome, refl, sym, ◌∙◌, subst, not, ◌&&◌, if◌then◌else◌, nat_lt, lit<, unwrap_or, arith}
+use Rattle.std.specs.Prelude.{IfSome}
+use Rattle.std.specs.Option.{option_and_then, option_map}
 use Rattle.std.proofs.lemmas.Option.{none-some}
 use Rattle.std.proofs.lemmas.Bool.Decides.{nat_tests}
 use Rattle.v4l_const.specs.declared.errno.Errno.{Errno}
@@ -9,10 +10,12 @@ use Rattle.v4l_const.specs.declared.four_cc.FourCc.{FourCc}
 use Rattle.v4l_const.specs.declared.model.Model.{Model}
 use Rattle.v4l_const.specs.Model.{queues as types_of, source_queue, picture_queue}
 use Rattle.v4l_format.specs.declared.fmt.Fmt.{Fmt}
-use Rattle.v4l_format.specs.Fmt.{IsAdjusted, adjusted, picture_size}
-use Rattle.v4l_format.specs.FormatRow.{row_of as format_row_of}
+use Rattle.v4l_format.specs.Fmt.{IsAdjusted, picture_size}
 use Rattle.v4l_format.specs.Pattern.{patterns}
-use Rattle.v4l_format.proofs.FmtLemmas.{adjusted_is_adjusted}
+use Rattle.v4l_rules.specs.Formats.{is_source, source_format, with_format_at, with_set_format_at, with_source_format}
+use Rattle.v4l_rules.specs.Queues.{place_in}
+use Rattle.v4l_rules.specs.Refusals.{first_refusal}
+use Rattle.v4l_rules.proofs.AdjustedLemmas.{adjusted_from_adjusted, first_is_adjusted, sized_adjusted}
 use Rattle.vm_local.specs.declared.call.Call.{Call}
 use Rattle.vm_local.specs.declared.call.Call.TheVariants.{OpenHandle, CloseHandle, QueryCap, EnumFmt, GFmt, TryFmt, SFmt, EnumInput, GInput, SInput, ReqBufs, QueryBuf, UAlloc, QBuf, StreamOn, StreamOff, DqBuf, Mmap, Munmap, Peek, Hash, Poke, Fill, Subscribe, Unsubscribe, DqEvent}
 use Rattle.vm_local.specs.declared.entry.Entry.{Entry}
@@ -22,15 +25,15 @@ use Rattle.vm_local.specs.declared.owed.OwedItem.{OwedItem}
 use Rattle.vm_local.specs.declared.owed.OwedItem.TheVariants.{Buffer as OwedBuffer, Sync}
 use Rattle.vm_local.specs.declared.reply.Reply.{Reply}
 use Rattle.vm_local.specs.declared.reply.Reply.TheVariants.{Refused}
-use Rattle.vm_local.specs.State.{QueueState, LocalState, opening, opening_queue, first_format, place_in, queue_of, with_queue}
+use Rattle.vm_local.specs.State.{QueueState, LocalState, opening, opening_queue, queue_kind, queue_of, with_queue}
 use Rattle.vm_local.specs.Same.{same_reply, address_in}
-use Rattle.vm_local.specs.Queue.{is_source, sized_as, adjusted_from, adjusted_for, with_format, with_set_format, stopped_queue, with_buffers, started, taken_back, can_finish}
+use Rattle.vm_local.specs.Queue.{adjusted_for, with_set_format, stopped_queue, with_buffers, started, taken_back, can_finish}
 use Rattle.vm_local.specs.Calls.{Row, row_of, querycap_row, enumfmt_row, gfmt_row, tryfmt_row, sfmt_row, enuminput_row, ginput_row, sinput_row, reqbufs_row, querybuf_row, ualloc_row, qbuf_row, streamon_row, streamoff_row, dqbuf_row, mmap_row, munmap_row, read_row, hash_row, write_row, fill_row, subscribe_row, unsubscribe_row, dqevent_row}
 use Rattle.vm_local.specs.Steps.{counted, heads_taken, taken, next_timestamp, with_target_used, with_picture, with_done, finished, marked_bad, given, given_from, item_given, sync_of, buffers_taken}
-use Rattle.vm_local.specs.Log.{first_refusal, answered, row_for, called, after, replay_from, replay, IsLegal, IsCall}
+use Rattle.vm_local.specs.Log.{answered, row_for, called, after, replay_from, replay, IsLegal, IsCall}
 use Rattle.vm_local.proofs.KeptLemmas.{some_same, chosen}
 use Rattle.vm_handle.specs.Range.{IsInRange, IsOffered}
-use Rattle.vm_handle.specs.Handle.{HandleState, local_after, local_of}
+use Rattle.vm_handle.specs.Handle.{local_after}
 use Rattle.vm_handle.proofs.LogLemmas.{outcome}
 
 -- the queues' formats are ones that the device offers
@@ -42,17 +45,9 @@ pub record Follows (s t : LocalState) : Type 0 where
   pub model : t.model ≡ s.model
   pub range : IsInRange s → IsInRange t
 
-first_is_offered : IsAdjusted first_format
-unfolding format_row_of
-first_is_offered = record {
-  known = refl;
-  width = record { even = refl; low = lit≤ tt; high = lit≤ tt };
-  height = record { even = refl; low = lit≤ tt; high = lit≤ tt };
-}
-
 first_are_offered : (types : List ℕ) → AreOffered (map (λ t. opening_queue) types)
-first_are_offered [] p = first_is_offered
-first_are_offered (t ∷ ts) zero = first_is_offered
+first_are_offered [] p = first_is_adjusted
+first_are_offered (t ∷ ts) zero = first_is_adjusted
 first_are_offered (t ∷ ts) (suc p) = first_are_offered ts p
 
 -- another queue in a place
@@ -76,43 +71,32 @@ offered_queue s t q range same =
 
 -- ---- formats that are asked for
 
-adjusted_size : (f g : Fmt) → IsAdjusted f → IsAdjusted g → IsAdjusted (sized_as f g)
-adjusted_size f g size code = record { known = code.known; width = size.width; height = size.height }
-
-adjusted_from_offered : (source : Option ℕ) (s : LocalState) (t : ℕ) (f : FourCc) (w h : ℕ) → IsInRange s → IsAdjusted (adjusted_from source s t f w h)
-adjusted_from_offered None s t f w h range = adjusted_is_adjusted f w h
-adjusted_from_offered (Some source) s t f w h range =
-    elim (eqb t (picture_queue s.model)) as (λ b. IsAdjusted (if b then sized_as (queue_of s source).format (adjusted f w h) else adjusted f w h)) [
-      | true ↦ adjusted_size (queue_of s source).format (adjusted f w h) (range.formats (place_in (types_of s.model) source)) (adjusted_is_adjusted f w h)
-      | false ↦ adjusted_is_adjusted f w h
-    ]
+-- the format of any queue is offered, so that of the source queue is
+source_offered : (o : Option ℕ) (s : LocalState) → IsInRange s → IfSome (option_map (λ source. (queue_of s source).format) o) IsAdjusted
+source_offered None s range = tt
+source_offered (Some source) s range = range.formats (place_in (types_of s.model) source)
 
 -- the format that a queue takes where it is asked for one
 pub adjusted_for_offered : (s : LocalState) (t : ℕ) (f : FourCc) (w h : ℕ) → IsInRange s → IsAdjusted (adjusted_for s t f w h)
-adjusted_for_offered s t f w h range = adjusted_from_offered (source_queue s.model) s t f w h range
-
-with_format_follows : (s : LocalState) (t : ℕ) (f : Fmt) → IsAdjusted f → Follows s (with_format s t f)
-with_format_follows s t f offered = record {
-  model = refl;
-  range = λ range. record {
-    input = range.input;
-    formats = offered_set s.queues (place_in (types_of s.model) t) _ range.formats offered;
-  };
-}
+adjusted_for_offered s t f w h range =
+    adjusted_from_adjusted (source_format queue_kind s.model s.queues) s.model t f w h (source_offered (source_queue s.model) s range)
 
 set_format_follows : (s : LocalState) (t : ℕ) (f : Fmt) → IsInRange s → IsAdjusted f → Follows s (with_set_format s t f)
-unfolding with_set_format
-set_format_follows s t f range offered =
-    let picture : Fmt = (queue_of s (picture_queue s.model)).format in
-    let g : Fmt = sized_as f picture in
-    let one : Follows s (with_format s t f) = with_format_follows s t f offered in
-    elim (is_source s t) as (λ b. Follows s (if b then with_format (with_format s t f) (picture_queue s.model) g else with_format s t f)) [
-      | true ↦
-          let two = with_format_follows (with_format s t f) (picture_queue s.model) g
-          (adjusted_size f picture offered (range.formats (place_in (types_of s.model) (picture_queue s.model)))) in
-          record { model = two.model; range = λ r. two.range (one.range r) }
-      | false ↦ one
-    ]
+unfolding with_set_format_at
+set_format_follows s t f range offered = record {
+  model = refl;
+  range = λ range. record { input = range.input; formats = offers (is_source s.model t) };
+}
+  where
+    one : AreOffered (with_format_at queue_kind s.model s.queues t f)
+    one = offered_set s.queues (place_in (types_of s.model) t) _ range.formats offered
+
+    offers : (b : Bool) → AreOffered (if b then with_source_format queue_kind s.model s.queues t f else with_format_at queue_kind s.model s.queues t f)
+    offers false = one
+    offers true =
+        let pictures : ℕ = place_in (types_of s.model) (picture_queue s.model) in
+        offered_set (with_format_at queue_kind s.model s.queues t f) pictures _ one
+        (sized_adjusted f (queue_of s (picture_queue s.model)).format offered (range.formats pictures))
 
 -- ---- the rows of the table
 
@@ -286,11 +270,6 @@ local_in_range m log legal = (local_follows m log legal).range (opening_in_range
 
 pub local_model : (m : Model) (log : List Entry) → IsLegal m log → (local_after m log).model ≡ m
 local_model m log legal = (local_follows m log legal).model
-
--- the same of a handle that is seen as its fields
-pub range_seen : (h : HandleState) (m : Model) (log : List Entry) (session : Option ℕ) (room : ℕ)
-    → record { model = m; entries = log; session = session; room = room } ≡ h → IsLegal m log → IsInRange (local_of h)
-range_seen h m log session room seen legal = subst (λ (x : HandleState). IsInRange (local_of x)) seen (local_in_range m log legal)
 
 -- ---- replies
 

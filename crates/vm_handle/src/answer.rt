@@ -1,6 +1,6 @@
 //! Reading the device's answers.
 
-ghost use Rattle.std.specs.Prelude.{◌≡◌, ◌<◌, ◌^◌, ℕ, Some};
+ghost use Rattle.std.specs.Prelude.{◌≡◌, ◌<◌, ◌^◌, ℕ, Some, IsSome};
 ghost use Rattle.v4l_const.specs.Model.{capabilities, device_capabilities};
 ghost use Rattle.v4l_const.specs.declared.four_cc.FourCc.{FourCc};
 ghost use Rattle.v4l_const.specs.declared.model.Model.{Model};
@@ -13,9 +13,11 @@ ghost use Rattle.vm_local.specs.declared.reply.Reply.{Reply};
 ghost use Rattle.vm_wire.specs.Records.{capability_of, fmt_desc_answer, format_answer, input_answer};
 ghost use Rattle.vm_wire.specs.Wire.{le};
 ghost use Rattle.vm_wire.specs.declared.response.Response.TheVariants.{Answered};
-ghost use Rattle.vm_handle.specs.Handle.{IsBuilt, IsAnswer};
+ghost use Rattle.vm_handle.specs.Exchange.{command_of};
+ghost use Rattle.vm_handle.specs.Handle.{IsAnswer};
 ghost use Rattle.vm_handle.specs.Range.{IsInRange};
 
+use crate::exchange::words;
 use v4l_const::{Errno, FourCc};
 use v4l_format::Fmt;
 use v4l_layout::{read_capability, read_fmtdesc, read_format, read_input};
@@ -73,12 +75,11 @@ fn input_in(bytes: &[u8]) -> Option<Reply>
     Some(Reply::InputIs(u32::from_le_bytes(number)))
 }
 
-// The reply that the answer to a call tells.
+// The reply that the answer to a call that crossed tells.
 fn told(call: &Call, bytes: &[u8]) -> Option<Reply>
-    requires built { IsBuilt call.now }
-    ensures { (s : LocalState) (line : ℕ) (reply : Reply) → IsInRange s → IsAnswer s line call.now (Answered bytes.now) reply → result ≡ Some reply }
+    ensures { (id : ℕ) (s : LocalState) (line : ℕ) (reply : Reply) → IsSome (command_of id s call.now) → IsInRange s → IsAnswer s line call.now (Answered bytes.now) reply → result ≡ Some reply }
 {
-    match call {
+    match words(*call) {
         Call::QueryCap => caps_in(bytes),
         Call::EnumFmt { .. } => code_in(bytes),
         Call::GFmt { .. } | Call::TryFmt { .. } | Call::SFmt { .. } => format_in(bytes),
@@ -88,10 +89,10 @@ fn told(call: &Call, bytes: &[u8]) -> Option<Reply>
     }
 }
 
-/// The reply of a call to which the device answers this: it is the one that the call has from the handle's state.
+/// The reply of a call that crossed and to which the device answers this: it is the one that the call has from the
+/// handle's state.
 pub(crate) fn reply_of(call: &Call, response: &Response) -> Option<Reply>
-    requires built { IsBuilt call.now }
-    ensures { (s : LocalState) (line : ℕ) (reply : Reply) → IsInRange s → IsAnswer s line call.now response.now reply → result ≡ Some reply }
+    ensures { (id : ℕ) (s : LocalState) (line : ℕ) (reply : Reply) → IsSome (command_of id s call.now) → IsInRange s → IsAnswer s line call.now response.now reply → result ≡ Some reply }
 {
     match response {
         Response::Refused(status) => Some(Reply::Refused(Errno::of(*status)?)),

@@ -29,6 +29,23 @@ fn calls() -> [Call; 9] {
     ]
 }
 
+// Calls that aren't built, for which a handle has to be open, too.
+fn unbuilt() -> [Call; 5] {
+    [
+        Call::ReqBufs { t: 1, m: 1, n: 4 },
+        Call::QBuf {
+            t: 1,
+            i: 0,
+            user: None,
+            used: 0,
+            ts: 0,
+        },
+        Call::DqBuf { t: 1 },
+        Call::Subscribe { e: 4 },
+        Call::DqEvent,
+    ]
+}
+
 // An open for which the device has no memory.
 fn denied() -> Row<'static> {
     Row {
@@ -62,6 +79,9 @@ fn a_closed_handle_asks_the_device_for_nothing(rt: HostRuntime) -> Result<(), Fa
     assert_eq!(rt; pair.session(), Some(7));
     pair.cross(&rt, &closing())?;
     for call in &calls() {
+        pair.refuse(&rt, call)?;
+    }
+    for call in &unbuilt() {
         pair.refuse(&rt, call)?;
     }
     assert_eq!(rt; pair.session(), Some(7));

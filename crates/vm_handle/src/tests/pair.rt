@@ -1,17 +1,21 @@
-ghost use Rattle.std.specs.Prelude.{◌≡◌, ◌<◌, ◌^◌, [], true, IsTrue, IfOk, OnErr};
+ghost use Rattle.std.specs.Prelude.{◌≡◌, ◌<◌, [], None, true, IsTrue, IfOk, OnErr, vec_len, vec_capacity};
+ghost use Rattle.v4l_const.specs.declared.errno.Errno.TheVariants.{Ebadf};
 ghost use Rattle.vm_local.specs.Log.{IsCall};
-ghost use Rattle.vm_handle.specs.Handle.{IsBuilt};
+ghost use Rattle.vm_local.specs.declared.reply.Reply.{Reply};
+ghost use Rattle.vm_handle.specs.Handle.{local_of, with_entry, with_line, with_sent};
+ghost use Rattle.vm_handle.specs.Record.{recorded};
 
 use super::{Row, joined};
-use crate::{Handle, Started, response_to};
+use crate::{Handle, Record, Started, Way, response_to, touches_memory, way_of};
 use std::alloc::Global;
 use std::marker::Model;
 use std::process::Abort;
 use std::test::Fail;
 use v4l_const::{Errno, Model as DeviceModel};
+use vm_frame::Held;
 use vm_local::{Call, Entry, Local, Reply, local_step};
 use vm_mem::Memory;
-use vm_wire::{Command, Response, decode_response};
+use vm_wire::{Response, decode_response};
 
 /// The session that the device opens for the handle.
 const SESSION: u32 = 7;
@@ -22,51 +26,28 @@ const LINES: u32 = 32;
 /// What stands behind a command.
 const BEHIND: u8 = 0xee;
 
-/// A handle, and beside it the plain machine in the state of its log.
+/// A handle, and beside it the plain machine in the state of its log, with the record of that state.
 #[derive(Drop)]
 pub struct Pair {
     handle: Handle,
     local: Local,
+    kept: Record,
     alloc: Global,
-    model: DeviceModel,
-    // How many more entries there is room for.
+    // How many more lines there is room for.
     left: u32,
 }
 
 impl Model for Pair {
-    ghost use Rattle.std.specs.Prelude.{◌≡◌, ◌≤◌, ◌+◌, [], length};
+    ghost use Rattle.std.specs.Prelude.{◌≡◌, ◌≤◌, ◌+◌, [], None, length};
     ghost use Rattle.vm_local.specs.Log.{IsLegal};
     ghost use Rattle.vm_handle.specs.Handle.{HandleState, local_of};
+    ghost use Rattle.vm_handle.specs.Record.{recorded};
 
     ghost Value = { HandleState };
 
     ghost view = { λ p. p.handle };
 
-    ghost invariant = { λ p. (p.local ≡ local_of p.handle) × IsLegal p.handle.model p.handle.entries × (p.handle.model ≡ p.model) × (p.local.events ≡ []) × (p.left + length p.handle.entries ≤ p.handle.room) };
-}
-
-// A number fits into 32 bits.
-fn fits(n: u32) -> bool
-    ensures { IsTrue result → n < 2 ^ 32 }
-{
-    n <= u32::MAX
-}
-
-// Whether a call is one of those that are built.
-fn is_built(call: &Call) -> bool
-    ensures { IsTrue result → IsBuilt call.now }
-{
-    match *call {
-        Call::OpenHandle { nonblock } => !nonblock,
-        Call::CloseHandle | Call::QueryCap | Call::GInput => true,
-        Call::EnumFmt { t, i } => fits(t) && fits(i),
-        Call::GFmt { t } => fits(t),
-        Call::TryFmt { t, f, w, h } | Call::SFmt { t, f, w, h } => {
-            fits(t) && fits(f.0) && fits(w) && fits(h)
-        }
-        Call::EnumInput { i } | Call::SInput { i } => fits(i),
-        _ => false,
-    }
+    ghost invariant = { λ p. (p.local ≡ local_of p.handle) × IsLegal p.handle.model p.handle.entries × (p.kept ≡ recorded p.local) × (p.local.events ≡ []) × (p.left + p.handle.begun ≤ p.handle.lines) × (p.handle.sent ≡ None) };
 }
 
 // Whether two answers are the same.
@@ -84,7 +65,6 @@ fn is_same(a: &Response, b: &Response) -> bool
 
 // Makes a call on the plain machine. True says that the call may have this reply there.
 fn step(local: &mut Local, line: u32, call: &Call, reply: &Reply) -> Result<bool, Memory>
-    requires built { IsBuilt call.now }
     requires quiet { local.old.events ≡ [] }
     ensures goes { IfOk result (λ legal. legal ≡ true → IsCall local.old line call.now reply.now local.new) }
     ensures quiet { IfOk result (λ legal. local.new.events ≡ []) }
@@ -98,14 +78,63 @@ fn step(local: &mut Local, line: u32, call: &Call, reply: &Reply) -> Result<bool
     local_step(local, &entry)
 }
 
+// Begins a call, which crosses by a command with these bytes.
+fn send(
+    rt: &impl Abort,
+    handle: &mut Handle,
+    line: u32,
+    call: &Call,
+    want: &[u8],
+    held: &mut Vec<Held>,
+)
+    requires none_out { handle.old.sent ≡ None }
+    requires lines { handle.old.begun < handle.old.lines }
+    requires held { vec_len held.old < vec_capacity held.old }
+    ensures { handle.new ≡ with_sent (with_line handle.old) line call.now }
+{
+    assert!(rt; !touches_memory(call));
+    let mut out = [BEHIND; 4096];
+    let Started::Send { len } = handle.start(line, call, &mut out, held) else {
+        panic!(rt; "the call crosses");
+    };
+    assert_eq!(rt; out.get(..len as usize), Some(want));
+    assert_eq!(rt; out.get(want.len()), Some(&BEHIND));
+}
+
+// Begins a call, which is refused without the device.
+fn refuse(
+    rt: &impl Abort,
+    handle: &mut Handle,
+    kept: &Record,
+    line: u32,
+    call: &Call,
+    held: &mut Vec<Held>,
+)
+    requires none_out { handle.old.sent ≡ None }
+    requires lines { handle.old.begun < handle.old.lines }
+    requires shown { kept.now ≡ recorded (local_of handle.old) }
+    requires held { vec_len held.old < vec_capacity held.old }
+    ensures { handle.new ≡ with_entry (with_line handle.old) line call.now (Reply.Refused Ebadf) }
+{
+    assert!(rt; !touches_memory(call));
+    let session = handle.session().unwrap_or(0);
+    let Way::AnsweredHere = way_of(session, kept, call) else {
+        panic!(rt; "the call is answered without the device");
+    };
+    let mut out = [BEHIND; 4096];
+    let started = handle.start(line, call, &mut out, held);
+    assert!(rt; started == Started::Answered);
+    assert!(rt; out.iter().all(|byte| *byte == BEHIND));
+}
+
 impl Pair {
     /// A handle of a device of this model, closed.
     pub fn make(alloc: Global, model: DeviceModel) -> Result<Pair, Fail> {
         Ok(Pair {
             handle: Handle::make(alloc, model, LINES)?,
             local: Local::new(alloc, model),
+            kept: Record::new(model),
             alloc,
-            model,
             left: LINES,
         })
     }
@@ -133,10 +162,13 @@ impl Pair {
     pub fn cross(&mut self, rt: &impl Abort, row: &Row) -> Result<(), Fail> {
         let line = self.line();
         let want = joined(self.alloc, row.command)?;
-        let command = self.start(rt, line, &row.call, &want);
         let answer = joined(self.alloc, row.answer)?;
+        let command = self
+            .handle
+            .command(&row.call)
+            .expect(rt, "the call crosses");
         let response = decode_response(&command, &answer)?;
-        self.reply(rt, line, &row.call, &row.reply, &response)?;
+        self.exchange(rt, line, &row.call, &row.reply, &want, &response)?;
         self.is_logged(rt, line, &row.call, &row.reply);
         Ok(())
     }
@@ -151,49 +183,47 @@ impl Pair {
         assert_eq!(rt; self.handle.log().last(), Some(&entry));
     }
 
-    // Begins a call, which crosses by a command with these bytes.
-    fn start(&mut self, rt: &impl Abort, line: u32, call: &Call, want: &[u8]) -> Command {
-        assert!(rt; is_built(call) && self.left > 0);
-        let command = self.handle.command(call).expect(rt, "the call crosses");
-        let mut out = [BEHIND; 304];
-        let Started::Send { len } = self.handle.start(line, call, &mut out) else {
-            panic!(rt; "the call crosses");
-        };
-        assert_eq!(rt; out.get(..len as usize), Some(want));
-        assert_eq!(rt; out.get(want.len()), Some(&BEHIND));
-        command
-    }
-
-    // Logs a call that crossed.
-    fn reply(
+    // Sends a call, and logs it with the reply that this answer tells.
+    fn exchange(
         &mut self,
         rt: &impl Abort,
         line: u32,
         call: &Call,
         reply: &Reply,
+        want: &[u8],
         response: &Response,
     ) -> Result<(), Fail> {
-        assert!(rt; is_built(call) && self.left > 0);
-        assert!(rt; self.handle.command(call).is_some());
+        assert!(rt; self.left > 0);
+        let mut held = Vec::with_capacity(self.alloc, 1)?;
         let legal = step(&mut self.local, line, call, reply)?;
         assert!(rt; legal);
-        let told = response_to(self.model, SESSION, call, reply);
+        let told = response_to(SESSION, &self.kept, call, reply);
         assert!(rt; is_same(&told, response));
-        self.handle.reply(line, call, response);
+        send(rt, &mut self.handle, line, call, want, &mut held);
+        self.handle.reply(line, call, response, &mut held);
+        self.kept.after(&Entry::Called {
+            line,
+            call: *call,
+            reply: *reply,
+        });
         self.left -= 1;
         Ok(())
     }
 
     /// A line that is refused without the device, since the handle isn't open.
     pub fn refuse(&mut self, rt: &impl Abort, call: &Call) -> Result<(), Fail> {
-        assert!(rt; is_built(call) && self.left > 0);
+        assert!(rt; self.left > 0);
         let line = self.line();
         let refused = Reply::Refused(Errno::Ebadf);
+        let mut held = Vec::with_capacity(self.alloc, 1)?;
         let legal = step(&mut self.local, line, call, &refused)?;
         assert!(rt; legal);
-        let mut out = [BEHIND; 304];
-        assert!(rt; self.handle.start(line, call, &mut out) == Started::Answered);
-        assert!(rt; out == [BEHIND; 304]);
+        refuse(rt, &mut self.handle, &self.kept, line, call, &mut held);
+        self.kept.after(&Entry::Called {
+            line,
+            call: *call,
+            reply: refused,
+        });
         self.left -= 1;
         self.is_logged(rt, line, call, &refused);
         Ok(())
