@@ -1,0 +1,4 @@
+pub mod LinesLemmas
+pub mod OrderlyLemmas
+pub mod CallerLemmas
+pub mod GuestLemmas
