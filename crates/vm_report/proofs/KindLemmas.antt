@@ -4,14 +4,15 @@ use Rattle.std.proofs.lemmas.Option.{none-some}
 use Rattle.v4l_const.specs.declared.errno.Errno.{Errno}
 use Rattle.v4l_const.specs.declared.errno.Errno.TheVariants.{Einval, Enomem}
 use Rattle.v4l_format.specs.Pattern.{patterns}
+use Rattle.v4l_rules.specs.Refusals.{first_refusal, no_inputs}
 use Rattle.vm_local.specs.declared.call.Call.{Call}
 use Rattle.vm_local.specs.declared.call.Call.TheVariants.{OpenHandle, CloseHandle, QueryCap, EnumFmt, GFmt, TryFmt, SFmt, EnumInput, GInput, SInput, ReqBufs, QueryBuf, UAlloc, QBuf, StreamOn, StreamOff, DqBuf, Mmap, Munmap, Peek, Hash, Poke, Fill, Subscribe, Unsubscribe, DqEvent}
 use Rattle.vm_local.specs.declared.reply.Reply.{Reply}
 use Rattle.vm_local.specs.declared.reply.Reply.TheVariants.{Refused}
 use Rattle.vm_local.specs.State.{LocalState}
 use Rattle.vm_local.specs.Same.{same_reply, address_in}
-use Rattle.vm_local.specs.Calls.{Row, row_of, not_open, no_inputs, querycap_row, enumfmt_row, gfmt_row, tryfmt_row, sfmt_row, enuminput_row, ginput_row, sinput_row, reqbufs_row, querybuf_row, ualloc_row, qbuf_row, streamon_row, streamoff_row, dqbuf_row, mmap_row, munmap_row, read_row, hash_row, write_row, fill_row, subscribe_row, unsubscribe_row, dqevent_row}
-use Rattle.vm_local.specs.Log.{first_refusal, answered, called, row_for, IsCall}
+use Rattle.vm_local.specs.Calls.{Row, row_of, not_open, querycap_row, enumfmt_row, gfmt_row, tryfmt_row, sfmt_row, enuminput_row, ginput_row, sinput_row, reqbufs_row, querybuf_row, ualloc_row, qbuf_row, streamon_row, streamoff_row, dqbuf_row, mmap_row, munmap_row, read_row, hash_row, write_row, fill_row, subscribe_row, unsubscribe_row, dqevent_row}
+use Rattle.vm_local.specs.Log.{answered, called, row_for, IsCall}
 use Rattle.vm_local.proofs.SameLemmas.{same_reply_decides}
 use Rattle.vm_report.specs.Text.{is_kind_of}
 
@@ -34,7 +35,7 @@ row_kind s line addr (EnumFmt t i) none = refl
 row_kind s line addr (GFmt t) none = refl
 row_kind s line addr (TryFmt t f w h) none = refl
 row_kind s line addr (SFmt t f w h) none = refl
-row_kind s line addr (EnumInput i) none = third_fails (not_open s) (no_inputs s) (nat_lt i (length patterns)) Einval none
+row_kind s line addr (EnumInput i) none = third_fails (not_open s) (no_inputs s.model) (nat_lt i (length patterns)) Einval none
 row_kind s line addr GInput none = refl
 row_kind s line addr (SInput i) none = refl
 row_kind s line addr (ReqBufs t m n) none = refl

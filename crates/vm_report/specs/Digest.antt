@@ -12,7 +12,8 @@ use Rattle.vm_wire.specs.declared.command.Command.{Command}
 use Rattle.vm_wire.specs.Wire.{command_bytes, response_bytes}
 use Rattle.vm_handle.specs.Exchange.{command_of, response_to}
 use Rattle.vm_handle.specs.Handle.{HandleState}
-use Rattle.vm_report.specs.Logs.{HandleLog, Logs, handle_logs}
+use Rattle.vm_script.specs.Script.{ScriptLines}
+use Rattle.vm_report.specs.Logs.{HandleLog, Logs, process_logs}
 
 -- the command's bytes and then the reply's, where the call crosses from this state
 abbrev pub wire_of_call : ℕ → LocalState → Option Command → Call → Reply → List ℕ
@@ -42,7 +43,12 @@ wires_of model h = wires_from (unwrap_or h.session 0) (opening model) h.entries
 abbrev pub digest_of : Model → List HandleLog → List ℕ
 digest_of model handles = sha256 (flat_map (wires_of model) handles)
 
--- the logs of one process's handles, with the digest of what crossed for them
-abbrev pub logs_of_process : Model → ℕ → List (List ℕ) → List HandleState → Logs
-logs_of_process model process names handles =
-    record { handles = handle_logs process names handles; wire = digest_of model (handle_logs process names handles) }
+-- The logs of a script's handles, process by process, with the digest of what crossed for them. No raw line is built,
+-- and nothing that maps.
+abbrev pub logs_of : ScriptLines → List (List HandleState) → Logs
+logs_of script handles = record {
+  handles = process_logs 0 script.processes handles;
+  raws = [];
+  journal = [];
+  wire = digest_of script.model (process_logs 0 script.processes handles);
+}

@@ -1,6 +1,10 @@
--- What a run leaves: each handle's log, and the digest of what crossed.
-use Rattle.std.specs.Prelude.{ℕ, ◌≡◌, ◌<◌, List, [], ◌∷◌, Option, Some, None, slice_index_or, map}
+-- What a run leaves: each handle's log, each raw line's, the region's journal, and the digest of what crossed.
+use Rattle.std.specs.Prelude.{ℕ, ◌+◌, List, [], ◌∷◌, ◌++◌, Option, map}
+use Rattle.v4l_const.specs.declared.errno.Errno.{Errno}
 use Rattle.vm_local.specs.declared.entry.Entry.{Entry}
+use Rattle.vm_region.specs.declared.entry.RegionEntry.{RegionEntry}
+use Rattle.vm_script.specs.declared.line.RawChain.{RawChain}
+use Rattle.vm_script.specs.Script.{ProcessLines}
 use Rattle.vm_handle.specs.Handle.{HandleState}
 
 -- One handle: its process, its name, the session's id where an open was answered ok, and its log.
@@ -10,21 +14,24 @@ pub record HandleLog : Type 0 where
   pub session : Option ℕ
   pub entries : List Entry
 
--- The handles in printed order, and the digest.
+-- One raw line: its process, its number, the chain that it posts, and the errno with which it is refused.
+pub record RawLog : Type 0 where
+  pub process : ℕ
+  pub line : ℕ
+  pub chain : RawChain
+  pub errno : Errno
+
+-- The handles and the raw lines in printed order, the region's journal, and the digest.
 pub record Logs : Type 0 where
   pub handles : List HandleLog
+  pub raws : List RawLog
+  pub journal : List RegionEntry
   pub wire : List ℕ
-
--- The ids that are there are the numbers below n, each once.
-pub record AreNumbersBelow (n : ℕ) (ids : List (Option ℕ)) : Type 0 where
-  pub below : (h id : ℕ) → slice_index_or ids h None ≡ Some id → id < n
-  pub there : (id : ℕ) → id < n → (h : ℕ) × (slice_index_or ids h None ≡ Some id)
-  pub once : (h k id : ℕ) → slice_index_or ids h None ≡ Some id → slice_index_or ids k None ≡ Some id → h ≡ k
 
 abbrev pub ids_of : Logs → List (Option ℕ)
 ids_of logs = map (λ h. h.session) logs.handles
 
--- ---- the logs of a process's handles
+-- ---- the logs of processes' handles
 
 -- a process's handles with their names, in order
 abbrev pub handle_logs : ℕ → List (List ℕ) → List HandleState → List HandleLog
@@ -32,3 +39,9 @@ handle_logs process [] handles = []
 handle_logs process (name ∷ names) [] = []
 handle_logs process (name ∷ names) (h ∷ hs) =
     record { process = process; name = name; session = h.session; entries = h.entries } ∷ handle_logs process names hs
+
+-- the handles of the processes from this number on, in order
+abbrev pub process_logs : ℕ → List ProcessLines → List (List HandleState) → List HandleLog
+process_logs process [] handles = []
+process_logs process (p ∷ ps) [] = []
+process_logs process (p ∷ ps) (hs ∷ rest) = handle_logs process p.handles hs ++ process_logs (process + 1) ps rest

@@ -1,8 +1,8 @@
 -- The printed text of logs.
-use Rattle.std.specs.Prelude.{ℕ, ◌≡◌, Bool, true, false, ◌&&◌, nat_lt, List, [], ◌∷◌, ◌++◌, length, Option, Some, None, codes, IsTrue}
+use Rattle.std.specs.Prelude.{ℕ, ◌≡◌, Bool, true, false, ◌&&◌, ◌==◌, nat_lt, List, [], ◌∷◌, ◌++◌, length, flat_map, Option, Some, None, codes, IsTrue, if◌then◌else◌}
 use Rattle.std.specs.Fmt.{decimal}
 use Rattle.std.specs.Int.{to_le_bytes, to_be_bytes, w32, w64}
-use Rattle.std.specs.List.{join_with_byte}
+use Rattle.std.specs.List.{join_with_byte, list_any, range_with_len}
 use Rattle.hex.specs.Hex.{encode_lower}
 use Rattle.v4l_const.specs.Errno.{errno_number, errno_name}
 use Rattle.v4l_const.specs.declared.four_cc.FourCc.{FourCc}
@@ -15,7 +15,10 @@ use Rattle.vm_local.specs.declared.reply.Reply.{Reply}
 use Rattle.vm_local.specs.declared.reply.Reply.TheVariants.{Done, Refused, Caps, Code, Format, InputName, InputIs, Count, Buf, Pages, Frame, Mapped, Bytes, Digest, Event}
 use Rattle.vm_wire.specs.Records.{input_name}
 use Rattle.vm_script.specs.Grammar.{reads_as}
-use Rattle.vm_report.specs.Logs.{HandleLog, Logs}
+use Rattle.vm_region.specs.declared.entry.RegionEntry.{RegionEntry}
+use Rattle.vm_region.specs.declared.entry.RegionEntry.TheVariants.{Map, Drop}
+use Rattle.vm_guest.specs.Guest.{process_limit}
+use Rattle.vm_report.specs.Logs.{HandleLog, RawLog, Logs}
 
 -- ---- the words of a reply
 
@@ -78,15 +81,60 @@ session_text (Some id) = decimal id
 abbrev pub head_text : HandleLog → List ℕ
 head_text h = codes "handle " ++ decimal h.process ++ codes " " ++ h.name ++ codes " " ++ session_text h.session ++ codes "\n"
 
--- each handle's head and its log, with the words of its calls
-abbrev pub handles_text : List HandleLog → List (List (List ℕ)) → List ℕ
-handles_text [] words = []
-handles_text (h ∷ hs) [] = []
-handles_text (h ∷ hs) (echoes ∷ words) = head_text h ++ entries_text h.entries echoes ++ handles_text hs words
+-- a handle's head and its log, with the words of its calls
+abbrev pub handle_text : HandleLog → List (List ℕ) → List ℕ
+handle_text h echoes = head_text h ++ entries_text h.entries echoes
 
--- the whole text, with the words of each handle's calls
-abbrev pub text_of : Logs → List (List (List ℕ)) → List ℕ
-text_of logs words = handles_text logs.handles words ++ codes "region\n" ++ codes "wire " ++ encode_lower logs.wire ++ codes "\n"
+-- the handles of one process among these, each with the words of its calls
+abbrev pub handles_text : ℕ → List HandleLog → List (List (List ℕ)) → List ℕ
+handles_text process [] words = []
+handles_text process (h ∷ hs) [] = []
+handles_text process (h ∷ hs) (echoes ∷ words) =
+    (if h.process == process then handle_text h echoes else []) ++ handles_text process hs words
+
+-- ---- raw lines
+
+abbrev pub raw_text : RawLog → List ℕ → List ℕ
+raw_text r echo = call_text r.line echo (Refused r.errno)
+
+-- the raw lines of one process among these, each with its words
+abbrev pub raw_lines_text : ℕ → List RawLog → List (List ℕ) → List ℕ
+raw_lines_text process [] echoes = []
+raw_lines_text process (r ∷ rs) [] = []
+raw_lines_text process (r ∷ rs) (echo ∷ echoes) =
+    (if r.process == process then raw_text r echo else []) ++ raw_lines_text process rs echoes
+
+-- the same under their head, where the process has raw lines
+abbrev pub raws_text : ℕ → List RawLog → List (List ℕ) → List ℕ
+raws_text process raws echoes =
+    if list_any (λ r. r.process == process) raws
+    then codes "raws " ++ decimal process ++ codes "\n" ++ raw_lines_text process raws echoes else []
+
+-- ---- the region
+
+abbrev pub journal_line : RegionEntry → List ℕ
+journal_line (Map addr pages count) =
+    codes "map " ++ address_text addr ++ codes " " ++ decimal pages ++ codes " " ++ decimal count ++ codes "\n"
+journal_line (Drop addr count) = codes "drop " ++ address_text addr ++ codes " " ++ decimal count ++ codes "\n"
+
+-- ---- the whole text
+
+-- the words of each handle's calls, and of each raw line
+pub record Words : Type 0 where
+  pub calls : List (List (List ℕ))
+  pub raws : List (List ℕ)
+
+-- a process's handles, and then its raw lines
+abbrev pub process_text : Logs → Words → ℕ → List ℕ
+process_text logs words process =
+    handles_text process logs.handles words.calls ++ raws_text process logs.raws words.raws
+
+-- each process in order, then the region's journal, and the digest
+abbrev pub text_of : Logs → Words → List ℕ
+text_of logs words =
+    flat_map (process_text logs words) (range_with_len 0 process_limit)
+    ++ codes "region\n" ++ flat_map journal_line logs.journal
+    ++ codes "wire " ++ encode_lower logs.wire ++ codes "\n"
 
 -- ---- words that read as the calls
 
@@ -138,10 +186,11 @@ all_read [] (echoes ∷ words) = false
 all_read (h ∷ hs) [] = false
 all_read (h ∷ hs) (echoes ∷ words) = reads h.name h.entries echoes && all_read hs words
 
--- these words read as the calls of these logs, and the text is that of the logs with these words
-abbrev pub PrintsWith : List (List (List ℕ)) → List ℕ → Logs → Type 0
-PrintsWith words text logs = IsTrue (all_read logs.handles words) × (text ≡ text_of logs words)
+-- These words read as the calls of these logs, each raw line has words, and the text is that of the logs with them.
+abbrev pub PrintsWith : Words → List ℕ → Logs → Type 0
+PrintsWith words text logs =
+    IsTrue (all_read logs.handles words.calls) × (length words.raws ≡ length logs.raws) × (text ≡ text_of logs words)
 
 -- the text is that of the logs, with some words that read as their calls
 abbrev pub Prints : List ℕ → Logs → Type 0
-Prints text logs = (words : List (List (List ℕ))) × PrintsWith words text logs
+Prints text logs = (words : Words) × PrintsWith words text logs
