@@ -1,0 +1,15 @@
+pub mod LocalLemmas
+pub mod StandsLemmas
+pub mod AnswerLemmas
+pub mod SeatLemmas
+pub mod AgreeLemmas
+pub mod DoneLemmas
+pub mod ChainLemmas
+pub mod SliceLemmas
+pub mod ListLemmas
+pub mod WorldLemmas
+pub mod StepLemmas
+pub mod TurnLemmas
+pub mod OpeningLemmas
+pub mod EnabledLemmas
+pub mod LawLemmas

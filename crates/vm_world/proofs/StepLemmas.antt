@@ -1,0 +1,291 @@
+-- Lemmas on the world's steps over the link: what its parcels say, and that each step is the world's.
+use Rattle.std.proofs.Common.{◌≡◌, ◌≢◌, ℕ, zero, suc, ◌+◌, ◌-◌, ◌*◌, ◌<◌, ◌≤◌, Bool, true, false, List, [], ◌∷◌, ◌++◌, Option, Some, None, Result, Ok, Err, All, length, map, get_or, set, refl, sym, ap, ◌∙◌, subst, arith, nat_lt, if◌then◌else◌}
+use Rattle.std.specs.Prelude.{sum_by}
+use Rattle.std.proofs.lemmas.List.{append-nil, map_push, length-map}
+use Rattle.std.proofs.lemmas.List.Elements.{All-push, All-tail}
+use Rattle.std.proofs.lemmas.List.Sums.{sum_by-cons}
+use Rattle.vm_chain.specs.Chain.{writable_bytes}
+use Rattle.vm_chain.specs.declared.desc.Desc.{Desc}
+use Rattle.vm_chain.specs.declared.fault.ChainFault.{ChainFault}
+use Rattle.vm_link.specs.Queue.{Queue, Queues, queue_at, with_queue, posted, collected, free_count, rest_of}
+use Rattle.vm_link.specs.declared.link.QueueId.TheVariants.{Command as Commands}
+use Rattle.vm_link.specs.declared.chains.DoneChain.{DoneChain}
+use Rattle.vm_link.specs.declared.chains.OutChain.{OutChain}
+use Rattle.vm_link.specs.declared.link.Turn.{Turn}
+use Rattle.vm_link.specs.declared.link.Turn.TheVariants.{Did, Idle}
+use Rattle.vm_link.specs.declared.parcel.Finished.{Finished}
+use Rattle.vm_link.specs.declared.parcel.Parcel.{Parcel}
+use Rattle.vm_wire.specs.Message.{Ask, Request, Reply}
+use Rattle.vm_wire.specs.Message.Ask.{Unusable, Judged}
+use Rattle.vm_wire.specs.Wire.{IsCommand, response_bytes, Answers as MayReply}
+use Rattle.vm_wire.specs.declared.command.Command.{Command}
+use Rattle.vm_wire.specs.declared.command.Command.TheVariants.{OpenSession}
+use Rattle.vm_wire.specs.declared.command.CmdFault.{CmdFault}
+use Rattle.vm_host.specs.Sessions.{HostState}
+use Rattle.vm_host.specs.Host.{Executes as HostExecutes, AsksToOpen, chain_in, asked_by, performed, Sent, done_as, moved_on}
+use Rattle.vm_host.specs.Part.{ask_by, request_of, executed, executed_ask, finishing}
+use Rattle.vm_script.specs.Script.{ScriptLines}
+use Rattle.vm_guest.specs.declared.asked.Asked.{Asked}
+use Rattle.vm_guest.specs.Chain.{IsChain, Carries, reply_of, reply_bytes}
+use Rattle.vm_guest.specs.Process.{ProcessState, next, crossing, handle_at, crosses_by, sent, answered_here, Begins, Issues, CanPost, HasRoomFor, RepliesTo, IsReplyTo}
+use Rattle.vm_guest.specs.Guest.{GuestState, process_at, with_process, IsDriver, begins, begins_asked, issued, IssuesAt, Collected, Collects as GuestCollects, IsReply}
+use Rattle.vm_guest.proofs.OrderlyLemmas.{next_is}
+use Rattle.vm_world.specs.World.{WorldState, Turns, Executes, Collects, after_posting, after_finishing}
+use Rattle.vm_world.specs.World.{is_enabled, turn_of}
+use Rattle.vm_world.specs.declared.step.Step.{Step}
+use Rattle.vm_world.specs.declared.step.Step.TheVariants.{Issue, Execute, Collect}
+use Rattle.vm_world.specs.Sound.{IsSound, requests_of, replies_of}
+use Rattle.vm_world.specs.Carried.{world_of, CarriesCommand, IsBack, IsCarried}
+use Rattle.vm_world.proofs.ChainLemmas.{request_posted, served_posted, brought}
+use Rattle.vm_world.proofs.WorldLemmas.{begun_is, command_fits, reply_fits, room_to_open, sound_posting, sound_finishing, sound_collected, brought_to, IsBroughtTo, crossing_most, judged_same}
+
+-- ---- a line is begun
+
+set_same : {A : Type 0} (xs : List A) (i : ℕ) (d : A) → set xs i (get_or xs i d) ≡ xs
+set_same [] i d = refl
+set_same (x ∷ xs) zero d = refl
+set_same (x ∷ xs) (suc i) d = ap (λ ys. x ∷ ys) (set_same xs i d)
+
+-- What a step over the link is: the world's, and the link's parcels are what they say.
+pub record IsStep (turn : Turn) (w : WorldState) (step : Step) (w' : WorldState) (q' : Queue) : Type 0 where
+  pub turns : Turns turn w step w'
+  pub carried : IsCarried q'
+
+pub issue_step : (script : ScriptLines) (g : GuestState) (host : HostState) (queues queues' : Queues) (turn : Turn) (g' : GuestState) (n : ℕ)
+    → IsSound script (world_of script g host (queue_at Commands queues)) → IsCarried (queue_at Commands queues) → IssuesAt n g queues turn g' queues'
+    → IsStep turn (world_of script g host (queue_at Commands queues)) (Issue n) (world_of script g' host (queue_at Commands queues')) (queue_at Commands queues')
+issue_step script g host queues queues' turn g' n sound carried does = by_next (next (process_at g n)) refl does.issues
+  where
+    q : Queue
+    q = queue_at Commands queues
+
+    w : WorldState
+    w = world_of script g host q
+
+    p : ProcessState
+    p = process_at g n
+
+    by_way : (a : Asked) (o : Option Command) → next p ≡ Some a → crosses_by p a ≡ o → turn ≡ Did → Begins o a p queues does.process queues'
+        → IsStep turn w (Issue n) (world_of script g' host (queue_at Commands queues')) (queue_at Commands queues')
+    by_way a None is crosses did begun =
+        let same : queue_at Commands queues' ≡ q = ap (queue_at Commands) begun.1 in
+        let after : g' ≡ with_process g n (answered_here p a) = does.after ∙ ap (with_process g n) begun.0 in
+        let gives : issued g n ≡ Some (begins g n a None) = ap (begins_asked g n) is ∙ ap (λ o. Some (begins g n a o)) crosses in
+        let T : Turn → Type 0 = λ t. IsStep t w (Issue n) (world_of script g' host (queue_at Commands queues')) (queue_at Commands queues') in
+        let Q : Queue → Type 0 = λ x. IsStep Did w (Issue n) (world_of script g' host x) x in
+        let G : GuestState → Type 0 = λ x. IsStep Did w (Issue n) (world_of script x host q) q in
+        subst T (sym did) (subst Q (sym same) (subst G (sym after) (record {
+          turns = (begins g n a None, gives, ap (λ rs. record w { guest = with_process g n (answered_here p a); requests = rs }) (sym (append-nil w.requests)));
+          carried = carried;
+        })))
+    by_way a (Some c) is crosses did begun =
+        let parcel : Parcel = begun.0 in
+        let same : queue_at Commands queues' ≡ posted q parcel = ap (queue_at Commands) begun.3 in
+        let after : g' ≡ with_process g n (sent p a) = does.after ∙ ap (with_process g n) begun.2 in
+        let gives : issued g n ≡ Some (begins g n a (Some c)) = ap (begins_asked g n) is ∙ ap (λ o. Some (begins g n a o)) crosses in
+        let fits = command_fits script w n a c sound is crosses in
+        let number : p.number ≡ n = sound.driver.numbered n fits.0 in
+        let carries : Carries n c parcel = subst (λ k. Carries k c parcel) number begun.1 in
+        let says = request_posted n c parcel fits.1 carries in
+        let who : parcel.who ≡ n = ap (λ (x : Parcel). x.who) carries.is in
+        let T : Turn → Type 0 = λ t. IsStep t w (Issue n) (world_of script g' host (queue_at Commands queues')) (queue_at Commands queues') in
+        let Q : Queue → Type 0 = λ x. IsStep Did w (Issue n) (world_of script g' host x) x in
+        let G : GuestState → Type 0 = λ x. IsStep Did w (Issue n) (world_of script x host (posted q parcel)) (posted q parcel) in
+        subst T (sym did) (subst Q (sym same) (subst G (sym after) (record {
+          turns = (begins g n a (Some c), gives, ap (λ rs. record w { guest = with_process g n (sent p a); requests = rs }) (map_push request_of q.waiting parcel ∙ ap (λ r. map request_of q.waiting ++ r ∷ []) says));
+          carried = record {
+            waiting = All-push CarriesCommand q.waiting parcel carried.waiting (c, fits.1, subst (λ k. Carries k c parcel) (sym who) carries);
+            out = carried.out;
+            done = carried.done;
+            lengths = carried.lengths;
+            size = carried.size;
+          };
+        })))
+
+    by_next : (o : Option Asked) → next p ≡ o → Issues o p queues turn does.process queues' → IsStep turn w (Issue n) (world_of script g' host (queue_at Commands queues')) (queue_at Commands queues')
+    by_next None is issues =
+        let same : queue_at Commands queues' ≡ q = ap (queue_at Commands) issues.2 in
+        let after : g' ≡ g = does.after ∙ ap (with_process g n) issues.1 ∙ ap (λ ps. record g { processes = ps }) (set_same g.processes n _) in
+        let T : Turn → Type 0 = λ t. IsStep t w (Issue n) (world_of script g' host (queue_at Commands queues')) (queue_at Commands queues') in
+        let Q : Queue → Type 0 = λ x. IsStep Idle w (Issue n) (world_of script g' host x) x in
+        let G : GuestState → Type 0 = λ x. IsStep Idle w (Issue n) (world_of script x host q) q in
+        subst T (sym issues.0) (subst Q (sym same) (subst G (sym after) (record { turns = refl; carried = carried })))
+    by_next (Some a) is issues = by_way a (crosses_by p a) is refl issues.0 issues.1
+
+-- ---- the device does a request
+
+pub execute_step : (script : ScriptLines) (g : GuestState) (host : HostState) (q q' : Queue) (turn : Turn) (host' : HostState) → IsSound script (world_of script g host q) → IsCarried q
+    → HostExecutes q.waiting host q turn host' q' → IsStep turn (world_of script g host q) Execute (world_of script g host' q') q'
+execute_step script g host q q' turn host' sound carried does = by_waiting q.waiting refl does
+  where
+    w : WorldState
+    w = world_of script g host q
+
+    by_waiting : (ps : List Parcel) → q.waiting ≡ ps → HostExecutes ps host q turn host' q' → IsStep turn w Execute (world_of script g host' q') q'
+    by_waiting [] is does =
+        let T : Turn → Type 0 = λ t. IsStep t w Execute (world_of script g host' q') q' in
+        let Q : Queue → Type 0 = λ x. IsStep Idle w Execute (world_of script g host' x) x in
+        let H : HostState → Type 0 = λ x. IsStep Idle w Execute (world_of script g x q) q in
+        subst T (sym does.0) (subst Q (sym does.2) (subst H (sym does.1) (record { turns = refl; carried = carried })))
+    by_waiting (parcel ∷ ps) is does =
+        let here : All CarriesCommand (parcel ∷ ps) = subst (λ xs. All CarriesCommand xs) is carried.waiting in
+        let own : CarriesCommand parcel = here 0 parcel (omega arith) in
+        let c : Command = own.0 in
+        let fits : IsCommand c = own.1 in
+        let carries : Carries parcel.who c parcel = own.2 in
+        let head : ℕ = does.1.0 in
+        let sent_back : Sent = does.1.1 in
+        let served = served_posted parcel.who c parcel host sent_back host' fits carries does.1.3 in
+        let says = request_posted parcel.who c parcel fits carries in
+        let r : Request = request_of parcel in
+        let first : w.requests ≡ r ∷ map request_of ps = ap (map request_of) is in
+        let gives : performed served.memory host c ≡ record { response = served.response; host = host' } = served.does in
+        let may : MayReply c served.response = subst (λ a. MayReply c a.response) gives (reply_fits script w r (map request_of ps) served.memory c sound first (ap (λ (x : Request). x.asks) says)) in
+        let back = brought parcel.who c parcel sent_back served.response head fits may carries served.sent_is in
+        let d : DoneChain = done_as head (length parcel.table) sent_back in
+        let q1 : Queue = moved_on q ps d in
+        let done_reply : executed served.memory host r ≡ record { reply = record { who = parcel.who; bytes = response_bytes served.response }; host = host' } =
+        ap (λ (x : Request). executed served.memory host x) says ∙ ap (finishing parcel.who) gives in
+        let two : length parcel.table ≡ 2 = ap (λ (x : Parcel). length x.table) carries.is in
+        let T : Turn → Type 0 = λ t. IsStep t w Execute (world_of script g host' q') q' in
+        let Q : Queue → Type 0 = λ x. IsStep Did w Execute (world_of script g host' x) x in
+        let R : List Request → Type 0 = λ rs. Executes w rs (world_of script g host' q1) in
+        subst T (sym does.0) (subst Q (sym does.1.4) (record {
+          turns = subst R (sym first) (
+            served.memory,
+            ap (λ (qs : List Reply). record w { host = host'; requests = map request_of ps; replies = qs }) (map_push (λ (x : DoneChain). reply_of x.finished) q.done d ∙ ap (λ x. w.replies ++ x ∷ []) back.reply)
+                ∙ ap (after_finishing w (map request_of ps)) (sym done_reply),
+          );
+          carried = record {
+            waiting = All-tail CarriesCommand parcel ps here;
+            out = carried.out;
+            done = All-push IsBack q.done d carried.done (subst (λ k. IsChain k sent_back.parcel) (sym (ap (λ (x : Parcel). x.who) back.chain.is)) back.chain, back.fits);
+            lengths = All-push (λ (x : DoneChain). x.count ≡ 2) q.done d carried.lengths two;
+            size = carried.size;
+          };
+        }))
+
+-- ---- the driver collects a reply
+
+pub collect_step : (script : ScriptLines) (g : GuestState) (host : HostState) (q : Queue) (turn : Turn) (g' : GuestState) → IsCarried q → GuestCollects q.done g turn g'
+    → IsStep turn (world_of script g host q) Collect (world_of script g' host (collected q)) (collected q)
+collect_step script g host q turn g' carried does = by_done q.done refl does
+  where
+    w : WorldState
+    w = world_of script g host q
+
+    by_done : (ds : List DoneChain) → q.done ≡ ds → GuestCollects ds g turn g' → IsStep turn w Collect (world_of script g' host (collected q)) (collected q)
+    by_done [] is does =
+        let same : collected q ≡ q = ap (λ ds. record q { done = rest_of ds }) is ∙ ap (λ ds. record q { done = ds }) (sym is) in
+        let T : Turn → Type 0 = λ t. IsStep t w Collect (world_of script g' host (collected q)) (collected q) in
+        let Q : Queue → Type 0 = λ x. IsStep Idle w Collect (world_of script g' host x) x in
+        let G : GuestState → Type 0 = λ x. IsStep Idle w Collect (world_of script x host q) q in
+        subst T (sym does.0) (subst Q (sym same) (subst G (sym does.1) (record { turns = refl; carried = carried })))
+    by_done (d ∷ ds) is does =
+        let same : collected q ≡ record q { done = ds } = ap (λ xs. record q { done = rest_of xs }) is in
+        let T : Turn → Type 0 = λ t. IsStep t w Collect (world_of script g' host (collected q)) (collected q) in
+        let Q : Queue → Type 0 = λ x. IsStep Did w Collect (world_of script g' host x) x in
+        let R : List Reply → Type 0 = λ rs. Collects w rs (world_of script g' host (record q { done = ds })) in
+        subst T (sym does.0) (subst Q (sym same) (record {
+          turns = subst R (sym (ap (map (λ (x : DoneChain). reply_of x.finished)) is)) (g', does.1, refl);
+          carried = record {
+            waiting = carried.waiting;
+            out = carried.out;
+            done = All-tail IsBack d ds (subst (λ xs. All IsBack xs) is carried.done);
+            lengths = All-tail (λ (x : DoneChain). x.count ≡ 2) d ds (subst (λ xs. All (λ (x : DoneChain). x.count ≡ 2) xs) is carried.lengths);
+            size = carried.size;
+          };
+        }))
+
+-- ---- what each end asks of its step
+
+-- the table of a process's chain has two descriptors
+table_two : (parcel : Parcel) → CarriesCommand parcel → length parcel.table ≡ 2
+table_two parcel carries = ap (λ (x : Parcel). length x.table) carries.2.is
+
+tables : (ps : List Parcel) → All CarriesCommand ps → sum_by (λ (x : Parcel). length x.table) ps ≡ 2 * length ps
+tables [] all = refl
+tables (x ∷ ps) all =
+    let rest = tables ps (All-tail CarriesCommand x ps all) in
+    let here : length x.table ≡ 2 = table_two x (all 0 x (omega arith)) in
+    let step = sum_by-cons (λ (y : Parcel). length y.table) x ps in
+    let more : length (x ∷ ps) ≡ suc (length ps) = refl in
+    omega (arith, rest, here, step, more)
+
+counts : (ds : List DoneChain) → All (λ (d : DoneChain). d.count ≡ 2) ds → sum_by (λ (d : DoneChain). d.count) ds ≡ 2 * length ds
+counts [] all = refl
+counts (d ∷ ds) all =
+    let rest = counts ds (All-tail (λ (x : DoneChain). x.count ≡ 2) d ds all) in
+    let here : d.count ≡ 2 = all 0 d (omega arith) in
+    let step = sum_by-cons (λ (x : DoneChain). x.count) d ds in
+    let more : length (d ∷ ds) ≡ suc (length ds) = refl in
+    omega (arith, rest, here, step, more)
+
+-- four descriptors are always free
+pub room_left : (script : ScriptLines) (g : GuestState) (host : HostState) (q : Queue) → IsSound script (world_of script g host q) → IsCarried q → 4 ≤ free_count q
+room_left script g host q sound carried =
+    let most = crossing_most g.processes in
+    let first = tables q.waiting carried.waiting in
+    let last = counts q.done carried.lengths in
+    let none : sum_by (λ (x : OutChain). x.count) q.out ≡ 0 = ap (λ xs. sum_by (λ (x : OutChain). x.count) xs) carried.out in
+    let asking = length-map q.waiting request_of in
+    let told = length-map q.done (λ (x : DoneChain). reply_of x.finished) in
+    omega (arith, most, first, last, none, asking, told, sound.count, sound.driver.few, carried.size)
+
+pub may_post : (script : ScriptLines) (g : GuestState) (host : HostState) (q : Queue) (n : ℕ) → IsSound script (world_of script g host q) → IsCarried q → CanPost (next (process_at g n)) (process_at g n) q
+may_post script g host q n sound carried = by_next (next (process_at g n))
+  where
+    by_way : (o : Option Command) → HasRoomFor o q
+    by_way None = tt
+    by_way (Some c) = room_left script g host q sound carried
+
+    by_next : (o : Option Asked) → CanPost o (process_at g n) q
+    by_next None = tt
+    by_next (Some a) = by_way (crosses_by (process_at g n) a)
+
+ok_descs : (r : Result (List Desc) ChainFault) (descs : List Desc) (parcel : Parcel) (c : Command) → r ≡ Ok descs → ask_by r parcel ≡ Judged (Ok c) → asked_by descs parcel.pages ≡ Ok OpenSession → c ≡ OpenSession
+ok_descs r descs parcel c is says opens = by_room (nat_lt (writable_bytes descs) 8) (sym (ap (λ x. ask_by x parcel) is) ∙ says)
+  where
+    by_room : (b : Bool) → (if b then Unusable else Judged (asked_by descs parcel.pages)) ≡ Judged (Ok c) → c ≡ OpenSession
+    by_room true same = cc
+    by_room false same = sym (judged_same _ _ (sym (ap Judged opens) ∙ same))
+
+pub may_execute : (script : ScriptLines) (g : GuestState) (host : HostState) (q : Queue) → IsSound script (world_of script g host q) → IsCarried q → AsksToOpen q.waiting → length host.sessions < host.opens
+may_execute script g host q sound carried asks = by_waiting q.waiting refl asks
+  where
+    by_waiting : (ps : List Parcel) → q.waiting ≡ ps → AsksToOpen ps → length host.sessions < host.opens
+    by_waiting [] is asks = absurd asks
+    by_waiting (parcel ∷ ps) is asks =
+        let own : CarriesCommand parcel = subst (λ xs. All CarriesCommand xs) is carried.waiting 0 parcel (omega arith) in
+        let says = ap (λ (x : Request). x.asks) (request_posted parcel.who own.0 parcel own.1 own.2) in
+        let c : own.0 ≡ OpenSession = ok_descs (chain_in parcel) asks.0 parcel own.0 asks.1 says asks.2 in
+        room_to_open script (world_of script g host q) (request_of parcel) (map request_of ps) sound (ap (map request_of) is) (says ∙ ap (λ x. Judged (Ok x)) c)
+
+pub may_collect : (script : ScriptLines) (g : GuestState) (host : HostState) (q : Queue) → IsSound script (world_of script g host q) → IsCarried q → IsReply q.done g
+may_collect script g host q sound carried = by_done q.done refl
+  where
+    by_done : (ds : List DoneChain) → q.done ≡ ds → IsReply ds g
+    by_done [] is = tt
+    by_done (d ∷ ds) is =
+        let back : IsBack d = subst (λ xs. All IsBack xs) is carried.done 0 d (omega arith) in
+        let first = ap (map (λ (x : DoneChain). reply_of x.finished)) is in
+        let to : IsBroughtTo g d.finished.parcel.who (reply_bytes d.finished) = brought_to script (world_of script g host q) (reply_of d.finished) _ sound first in
+        let number = sound.driver.numbered d.finished.parcel.who to.within in
+        let R : Option Command → Type 0 = λ o. RepliesTo o to.asked (process_at g d.finished.parcel.who) d.finished in
+        let S : Option Asked → Type 0 = λ o. IsReplyTo o (process_at g d.finished.parcel.who) d.finished in (
+          to.within,
+          subst S (sym to.on_its_way) (subst R (sym to.crossed) (record {
+            chain = subst (λ k. IsChain k d.finished.parcel) (sym number) back.0;
+            fits = back.1;
+            enough = to.enough;
+            may = to.may;
+          })),
+        )
+
+-- the same over the link's queues
+pub collected_over : (script : ScriptLines) (g : GuestState) (host : HostState) (queues queues' : Queues) (turn : Turn) (g' : GuestState) → IsCarried (queue_at Commands queues)
+    → GuestCollects (queue_at Commands queues).done g turn g' → queues' ≡ with_queue Commands (collected (queue_at Commands queues)) queues
+    → IsStep turn (world_of script g host (queue_at Commands queues)) Collect (world_of script g' host (queue_at Commands queues')) (queue_at Commands queues')
+collected_over script g host queues queues' turn g' carried does is =
+    let Q : Queue → Type 0 = λ x. IsStep turn (world_of script g host (queue_at Commands queues)) Collect (world_of script g' host x) x in
+    subst Q (sym (ap (queue_at Commands) is)) (collect_step script g host (queue_at Commands queues) turn g' carried does)
