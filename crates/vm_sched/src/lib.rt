@@ -1,0 +1,8 @@
+//! The schedule of a seed: which of the steps that may come next is taken.
+//!
+//! Begin with `run_schedule`. Its main definition is the run that a seed gives, in `specs/Schedule.antt`.
+#![tactic(auto)]
+
+mod schedule;
+
+pub use schedule::run_schedule;
