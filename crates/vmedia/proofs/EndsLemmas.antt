@@ -1,156 +1,179 @@
--- Lemmas on the top call's statuses: each has its cause.
-use Rattle.std.proofs.Common.{◌≡◌, ℕ, ◌≤◌, ◌⊎◌, List, Option, Some, None, Ok, Err, IsSome, IfSome, length, sym, ◌∙◌, subst, arith, inl, inr}
-use Rattle.vm_io.specs.Bytes.{WasAppended, PartAppended}
+-- Lemmas on the top call's endings: each has its cause.
+use Rattle.std.proofs.Common.{◌≡◌, ℕ, ◌==◌, ◌≤◌, ◌⊎◌, List, Option, Some, None, Ok, Err, IsSome, IfSome, length, refl, sym, ap, ◌∙◌, subst, arith, inl, inr, if◌then◌else◌}
+use Rattle.vm_io.specs.Bytes.{WasAppended, PartAppended, NothingLeft}
 use Rattle.vm_io.specs.Faults.{Rose}
 use Rattle.vm_script.specs.Script.{ScriptLines}
 use Rattle.vm_script.specs.Grammar.{script_of}
+use Rattle.vmedia.specs.declared.ending.Ending.{Ending}
+use Rattle.vmedia.specs.declared.ending.Ending.TheVariants.{Ran, BadWords, BadScript, SourceFailed, SinkFailed, NoMemory}
 use Rattle.vmedia.specs.Command.{seed_in}
-use Rattle.vmedia.specs.Top.{Tells, Ends, TellsRun, TellsFault, usage_line, script_limit, WritesText, ForBytes}
+use Rattle.vmedia.specs.Top.{Outside, Answers, Tells, TellsRun, TellsFault, IsWritten, WroteAll, Wrote, Ends, EndsWith, ReadsWell, status_of, usage_line, script_limit}
 
-module _ (words : List (List ℕ)) (left held held' : Option (List ℕ)) (kf kf' sf sf' r : ℕ) (ends : Ends words left held held' kf kf' sf sf' r) where
-  pub ends_usage : r ≡ 2 → (seed_in words ≡ None) × WasAppended held held' usage_line
-  ends_usage is = elim ends [
-    | inl e ↦ elim e.3 [
-      | inl whole ↦ elim e.2 [
-        | inl usage ↦ (usage.1, subst (WasAppended held held') usage.2 whole.1)
-        | inr answer ↦ elim answer.1 [
-          | inl run ↦ absurd (omega (arith, is, whole.0, run.0))
-          | inr script ↦ absurd (omega (arith, is, whole.0, script.0))
-        ]
-      ]
-      | inr part ↦ absurd (omega (arith, is, part.0))
-    ]
-    | inr none ↦ elim none [
-      | inl source ↦ absurd (omega (arith, is, source.0))
-      | inr memory ↦ absurd (omega (arith, is, memory.0))
-    ]
-  ]
+-- ---- an ending is known by its status
 
-  pub ends_bad_words : seed_in words ≡ None → (r ≡ 2) ⊎ (r ≡ 5)
-  ends_bad_words bad = elim ends [
-    | inl e ↦ elim e.3 [
-      | inl whole ↦ elim e.2 [
-        | inl usage ↦ inl (whole.0 ∙ usage.0)
-        | inr answer ↦ absurd (let P : Option ℕ → Type 0 = λ o. IsSome o in let none : IsSome {T = ℕ} None = subst P bad answer.0 in cc)
-      ]
-      | inr part ↦ inr part.0
-    ]
-    | inr none ↦ elim none [
-      | inl source ↦ absurd (let P : Option ℕ → Type 0 = λ o. IsSome o in let none : IsSome {T = ℕ} None = subst P bad source.1 in cc)
-      | inr memory ↦ absurd (let P : Option ℕ → Type 0 = λ o. IsSome o in let none : IsSome {T = ℕ} None = subst P bad memory.1 in cc)
-    ]
-  ]
+abbrev ending_of : ℕ → Ending
+ending_of n = if n == 0 then Ran else (if n == 2 then BadWords else (if n == 3 then BadScript else (if n == 4 then SourceFailed else (if n == 5 then SinkFailed else NoMemory))))
 
-  pub ends_run : r ≡ 0 → IsSome (seed_in words) × WritesText held held' (ForBytes left TellsRun)
-  ends_run is = elim ends [
-    | inl e ↦ elim e.3 [
-      | inl whole ↦ elim e.2 [
-        | inl usage ↦ absurd (omega (arith, is, whole.0, usage.0))
-        | inr answer ↦ elim answer.1 [
-          | inl run ↦ (answer.0, (e.1, run.1, whole.1))
-          | inr script ↦ absurd (omega (arith, is, whole.0, script.0))
-        ]
-      ]
-      | inr part ↦ absurd (omega (arith, is, part.0))
-    ]
-    | inr none ↦ elim none [
-      | inl source ↦ absurd (omega (arith, is, source.0))
-      | inr memory ↦ absurd (omega (arith, is, memory.0))
-    ]
-  ]
+ending_found : (e : Ending) → ending_of (status_of e) ≡ e
+ending_found Ran = refl
+ending_found BadWords = refl
+ending_found BadScript = refl
+ending_found SourceFailed = refl
+ending_found SinkFailed = refl
+ending_found NoMemory = refl
 
-  pub ends_script : r ≡ 3 → IsSome (seed_in words) × WritesText held held' (ForBytes left TellsFault)
-  ends_script is = elim ends [
-    | inl e ↦ elim e.3 [
-      | inl whole ↦ elim e.2 [
-        | inl usage ↦ absurd (omega (arith, is, whole.0, usage.0))
-        | inr answer ↦ elim answer.1 [
-          | inl run ↦ absurd (omega (arith, is, whole.0, run.0))
-          | inr script ↦ (answer.0, (e.1, script.1, whole.1))
-        ]
-      ]
-      | inr part ↦ absurd (omega (arith, is, part.0))
-    ]
-    | inr none ↦ elim none [
-      | inl source ↦ absurd (omega (arith, is, source.0))
-      | inr memory ↦ absurd (omega (arith, is, memory.0))
-    ]
-  ]
+same_ending : (e f : Ending) → status_of e ≡ status_of f → e ≡ f
+same_ending e f same = sym (ending_found e) ∙ ap ending_of same ∙ ending_found f
 
-  pub ends_source : r ≡ 4 → Rose sf sf' × (held' ≡ held)
-  ends_source is = elim ends [
-    | inl e ↦ elim e.3 [
-      | inl whole ↦ elim e.2 [
-        | inl usage ↦ absurd (omega (arith, is, whole.0, usage.0))
-        | inr answer ↦ elim answer.1 [
-          | inl run ↦ absurd (omega (arith, is, whole.0, run.0))
-          | inr script ↦ absurd (omega (arith, is, whole.0, script.0))
-        ]
-      ]
-      | inr part ↦ absurd (omega (arith, is, part.0))
-    ]
-    | inr none ↦ elim none [
-      | inl source ↦ (source.2, source.3)
-      | inr memory ↦ absurd (omega (arith, is, memory.0))
-    ]
-  ]
+-- words aren't both served and none
+not_both : {A : Type 0} (o : Option A) (x : A) → o ≡ Some x → o ≡ None → ⊥
+not_both o x some none = let both : Some x ≡ None = sym some ∙ none in cc
 
-  pub ends_sink : r ≡ 5 → Rose kf kf' × ((status : ℕ) × (text : List ℕ) × Tells words left status text × PartAppended held held' text)
-  ends_sink is = elim ends [
-    | inl e ↦ elim e.3 [
-      | inl whole ↦ elim e.2 [
-        | inl usage ↦ absurd (omega (arith, is, whole.0, usage.0))
-        | inr answer ↦ elim answer.1 [
-          | inl run ↦ absurd (omega (arith, is, whole.0, run.0))
-          | inr script ↦ absurd (omega (arith, is, whole.0, script.0))
-        ]
-      ]
-      | inr part ↦ (part.1, (e.0, e.1, e.2, part.2))
-    ]
-    | inr none ↦ elim none [
-      | inl source ↦ absurd (omega (arith, is, source.0))
-      | inr memory ↦ absurd (omega (arith, is, memory.0))
-    ]
-  ]
+not_served : {A : Type 0} (o : Option A) → IsSome o → o ≡ None → ⊥
+not_served (Some x) some none = cc
+not_served None some none = cc
 
-  pub ends_memory : r ≡ 6 → held' ≡ held
-  ends_memory is = elim ends [
-    | inl e ↦ elim e.3 [
-      | inl whole ↦ elim e.2 [
-        | inl usage ↦ absurd (omega (arith, is, whole.0, usage.0))
-        | inr answer ↦ elim answer.1 [
-          | inl run ↦ absurd (omega (arith, is, whole.0, run.0))
-          | inr script ↦ absurd (omega (arith, is, whole.0, script.0))
-        ]
-      ]
-      | inr part ↦ absurd (omega (arith, is, part.0))
-    ]
-    | inr none ↦ elim none [
-      | inl source ↦ absurd (omega (arith, is, source.0))
-      | inr memory ↦ memory.2
-    ]
-  ]
+-- a script isn't faulty
+not_faulty : (bytes text : List ℕ) (s : ScriptLines) → length bytes ≤ script_limit → script_of bytes ≡ Ok s → TellsFault bytes text → ⊥
+not_faulty bytes text s short reads fault = elim fault [
+  | inl long ↦ omega (arith, short, long.0)
+  | inr faulty ↦ let both : Ok s ≡ Err faulty.1.0 = sym reads ∙ faulty.1.1 in cc
+]
 
-  pub ends_complete : (bytes : List ℕ) (s : ScriptLines) → IsSome (seed_in words) → left ≡ Some bytes → length bytes ≤ script_limit → script_of bytes ≡ Ok s
-      → (Rose sf sf' → ⊥) → (Rose kf kf' → ⊥) → (r ≡ 0) ⊎ (r ≡ 6)
-  ends_complete bytes s served tells short reads source_well sink_well = elim ends [
-    | inl e ↦ elim e.3 [
-      | inl whole ↦ elim e.2 [
-        | inl usage ↦ absurd (let P : Option ℕ → Type 0 = λ o. IsSome o in let none : IsSome {T = ℕ} None = subst P usage.1 served in cc)
-        | inr answer ↦ elim answer.1 [
-          | inl run ↦ inl (whole.0 ∙ run.0)
-          | inr script ↦
-              let P : Option (List ℕ) → Type 0 = λ o. IfSome o (λ b. TellsFault b e.1) in
-              elim (subst P tells script.1) [
-                | inl long ↦ absurd (omega (arith, short, long.0))
-                | inr fault ↦ absurd (let both : Ok s ≡ Err fault.1.0 = sym reads ∙ fault.1.1 in cc)
-              ]
-        ]
+module _ (words : List (List ℕ)) (before after : Outside) where
+  -- ---- what was written, and the ending that goes with it
+
+  written_whole : (text : List ℕ) (told : Ending) → Tells words before.source.left told text → WroteAll before.sink after.sink text → ReadsWell before after
+      → (told ≡ Ran → NothingLeft after.source.left) → (told ≡ BadWords → after.source.left ≡ before.source.left) → Ends words before after told
+  written_whole text Ran tells wrote well read still = ((well, (text, tells, wrote)), read refl)
+  written_whole text BadWords tells wrote well read still = ((well, (text, tells, wrote)), still refl)
+  written_whole text BadScript tells wrote well read still = (well, (text, tells, wrote))
+  written_whole text SourceFailed tells wrote well read still = absurd tells.2
+  written_whole text SinkFailed tells wrote well read still = absurd tells.2
+  written_whole text NoMemory tells wrote well read still = absurd tells.2
+
+  pub ends_written : (text : List ℕ) (told ending : Ending) → Tells words before.source.left told text → IsWritten before.sink after.sink text told ending → ReadsWell before after
+      → (told ≡ Ran → NothingLeft after.source.left) → (told ≡ BadWords → after.source.left ≡ before.source.left) → Ends words before after ending
+  ends_written text told ending tells written well read still =
+      let P : Ending → Type 0 = λ e. Ends words before after e in elim written [
+        | inl whole ↦ subst P (sym whole.0) (written_whole text told tells whole.1 well read still)
+        | inr part ↦ subst P (sym part.0) (well, (told, text, tells, part.1))
       ]
-      | inr part ↦ absurd (sink_well part.1)
-    ]
-    | inr none ↦ elim none [
-      | inl source ↦ absurd (source_well source.2)
-      | inr memory ↦ inr memory.0
-    ]
-  ]
+
+  -- an answer to the source's bytes is one to the words that have the seed
+  tells_served : (seed : ℕ) (told : Ending) (text : List ℕ) → seed_in words ≡ Some seed → Answers seed before.source.left told text → Tells words before.source.left told text
+  tells_served seed Ran text served answers = (seed, served, answers)
+  tells_served seed BadWords text served answers = absurd answers
+  tells_served seed BadScript text served answers = (seed, served, answers)
+  tells_served seed SourceFailed text served answers = absurd answers
+  tells_served seed SinkFailed text served answers = absurd answers
+  tells_served seed NoMemory text served answers = absurd answers
+
+  served_still : (seed : ℕ) (told : Ending) (text : List ℕ) → Answers seed before.source.left told text → told ≡ BadWords → after.source.left ≡ before.source.left
+  served_still seed told text answers bad =
+      let P : Ending → Type 0 = λ e. Answers seed before.source.left e text in absurd (subst P bad answers)
+
+  -- what was written of an answer to the source's bytes
+  pub ends_served : (seed : ℕ) (text : List ℕ) (told ending : Ending) → seed_in words ≡ Some seed → Answers seed before.source.left told text → IsWritten before.sink after.sink text told ending → ReadsWell before after
+      → (told ≡ Ran → NothingLeft after.source.left) → Ends words before after ending
+  ends_served seed text told ending served answers written well read =
+      ends_written text told ending (tells_served seed told text served answers) written well read (served_still seed told text answers)
+
+  -- ---- the endings, one by one
+
+  well_read : (e : Ending) → Ends words before after e → (status_of e ≡ 4 → ⊥) → ReadsWell before after
+  well_read Ran ends other = ends.0.0
+  well_read BadWords ends other = ends.0.0
+  well_read BadScript ends other = ends.0
+  well_read SourceFailed ends other = absurd (other refl)
+  well_read SinkFailed ends other = ends.0
+  well_read NoMemory ends other = ends.1
+
+  well_written : (e : Ending) → Ends words before after e → (status_of e ≡ 5 → ⊥) → after.sink.faults ≡ before.sink.faults
+  well_written Ran ends other = ends.0.1.2.1
+  well_written BadWords ends other = ends.0.1.2.1
+  well_written BadScript ends other = ends.1.2.1
+  well_written SourceFailed ends other = ap (λ sink. sink.faults) ends.2
+  well_written SinkFailed ends other = absurd (other refl)
+  well_written NoMemory ends other = ap (λ sink. sink.faults) ends.2
+
+  of_bad_words : (e : Ending) → Ends words before after e → seed_in words ≡ None → (status_of e ≡ 2) ⊎ (status_of e ≡ 5)
+  of_bad_words Ran ends bad = absurd (not_both (seed_in words) ends.0.1.1.0 ends.0.1.1.1 bad)
+  of_bad_words BadWords ends bad = inl refl
+  of_bad_words BadScript ends bad = absurd (not_both (seed_in words) ends.1.1.0 ends.1.1.1 bad)
+  of_bad_words SourceFailed ends bad = absurd (not_served (seed_in words) ends.0 bad)
+  of_bad_words SinkFailed ends bad = inr refl
+  of_bad_words NoMemory ends bad = absurd (not_served (seed_in words) ends.0 bad)
+
+  of_script : (e : Ending) → Ends words before after e → (bytes : List ℕ) (s : ScriptLines) → IsSome (seed_in words) → before.source.left ≡ Some bytes → length bytes ≤ script_limit → script_of bytes ≡ Ok s
+      → (Rose before.source.faults after.source.faults → ⊥) → (Rose before.sink.faults after.sink.faults → ⊥) → (status_of e ≡ 0) ⊎ (status_of e ≡ 6)
+  of_script Ran ends bytes s served tells short reads source_well sink_well = inl refl
+  of_script BadWords ends bytes s served tells short reads source_well sink_well = absurd (not_served (seed_in words) served ends.0.1.1.0)
+  of_script BadScript ends bytes s served tells short reads source_well sink_well =
+      let P : Option (List ℕ) → Type 0 = λ o. IfSome o (λ b. TellsFault b ends.1.0) in
+      absurd (not_faulty bytes ends.1.0 s short reads (subst P tells ends.1.1.2))
+  of_script SourceFailed ends bytes s served tells short reads source_well sink_well = absurd (source_well ends.1)
+  of_script SinkFailed ends bytes s served tells short reads source_well sink_well = absurd (sink_well ends.1.3.0)
+  of_script NoMemory ends bytes s served tells short reads source_well sink_well = inr refl
+
+  of_faulty : (e : Ending) → Ends words before after e → (bytes text : List ℕ) → IsSome (seed_in words) → before.source.left ≡ Some bytes → TellsFault bytes text
+      → (Rose before.source.faults after.source.faults → ⊥) → (Rose before.sink.faults after.sink.faults → ⊥) → (status_of e ≡ 3) ⊎ (status_of e ≡ 6)
+  of_faulty Ran ends bytes text served tells fault source_well sink_well =
+      let P : Option (List ℕ) → Type 0 = λ o. IfSome o (λ b. TellsRun ends.0.1.1.0 b ends.0.1.0) in
+      let runs : TellsRun ends.0.1.1.0 bytes ends.0.1.0 = subst P tells ends.0.1.1.2 in
+      absurd (not_faulty bytes text runs.1.0 runs.0 runs.1.1 fault)
+  of_faulty BadWords ends bytes text served tells fault source_well sink_well = absurd (not_served (seed_in words) served ends.0.1.1.0)
+  of_faulty BadScript ends bytes text served tells fault source_well sink_well = inl refl
+  of_faulty SourceFailed ends bytes text served tells fault source_well sink_well = absurd (source_well ends.1)
+  of_faulty SinkFailed ends bytes text served tells fault source_well sink_well = absurd (sink_well ends.1.3.0)
+  of_faulty NoMemory ends bytes text served tells fault source_well sink_well = inr refl
+
+  -- ---- the statuses, one by one
+
+  module _ (r : ℕ) (ends : EndsWith words before after r) where
+    ends_as : (e : Ending) → r ≡ status_of e → Ends words before after e
+    ends_as e is = let P : Ending → Type 0 = λ x. Ends words before after x in subst P (same_ending ends.0 e (sym ends.1 ∙ is)) ends.2
+
+    either : (a b : ℕ) → (status_of ends.0 ≡ a) ⊎ (status_of ends.0 ≡ b) → (r ≡ a) ⊎ (r ≡ b)
+    either a b one = elim one [ inl is ↦ inl (ends.1 ∙ is) | inr is ↦ inr (ends.1 ∙ is) ]
+
+    pub ends_usage : r ≡ 2 → (seed_in words ≡ None) × WasAppended before.sink.held after.sink.held usage_line
+    ends_usage is =
+        let e = ends_as BadWords is in
+        (e.0.1.1.0, subst (WasAppended before.sink.held after.sink.held) e.0.1.1.1 e.0.1.2.0)
+
+    pub ends_bad_words : seed_in words ≡ None → (r ≡ 2) ⊎ (r ≡ 5)
+    ends_bad_words bad = either 2 5 (of_bad_words ends.0 ends.2 bad)
+
+    pub ends_run : r ≡ 0 → Wrote before.sink.held after.sink.held (Tells words before.source.left Ran)
+    ends_run is = let e = ends_as Ran is in (e.0.1.0, e.0.1.1, e.0.1.2.0)
+
+    pub ends_read : r ≡ 0 → NothingLeft after.source.left
+    ends_read is = (ends_as Ran is).1
+
+    pub ends_script : r ≡ 3 → Wrote before.sink.held after.sink.held (Tells words before.source.left BadScript)
+    ends_script is = let e = ends_as BadScript is in (e.1.0, e.1.1, e.1.2.0)
+
+    pub ends_source : r ≡ 4 → Rose before.source.faults after.source.faults × (after.sink.held ≡ before.sink.held)
+    ends_source is = let e = ends_as SourceFailed is in (e.1, ap (λ sink. sink.held) e.2)
+
+    pub ends_reads_well : (r ≡ 4 → ⊥) → after.source.faults ≡ before.source.faults
+    ends_reads_well other = well_read ends.0 ends.2 (λ is. other (ends.1 ∙ is))
+
+    pub ends_sink : r ≡ 5 → Rose before.sink.faults after.sink.faults
+        × ((told : Ending) × (text : List ℕ) × Tells words before.source.left told text × PartAppended before.sink.held after.sink.held text)
+    ends_sink is = let e = ends_as SinkFailed is in (e.1.3.0, (e.1.0, e.1.1, e.1.2, e.1.3.1))
+
+    pub ends_writes_well : (r ≡ 5 → ⊥) → after.sink.faults ≡ before.sink.faults
+    ends_writes_well other = well_written ends.0 ends.2 (λ is. other (ends.1 ∙ is))
+
+    pub ends_memory : r ≡ 6 → after.sink.held ≡ before.sink.held
+    ends_memory is = let e = ends_as NoMemory is in ap (λ sink. sink.held) e.2
+
+    pub ends_complete : (bytes : List ℕ) (s : ScriptLines) → IsSome (seed_in words) → before.source.left ≡ Some bytes → length bytes ≤ script_limit → script_of bytes ≡ Ok s
+        → (Rose before.source.faults after.source.faults → ⊥) → (Rose before.sink.faults after.sink.faults → ⊥) → (r ≡ 0) ⊎ (r ≡ 6)
+    ends_complete bytes s served tells short reads source_well sink_well = either 0 6 (of_script ends.0 ends.2 bytes s served tells short reads source_well sink_well)
+
+    pub ends_faulty : (bytes text : List ℕ) → IsSome (seed_in words) → before.source.left ≡ Some bytes → TellsFault bytes text
+        → (Rose before.source.faults after.source.faults → ⊥) → (Rose before.sink.faults after.sink.faults → ⊥) → (r ≡ 3) ⊎ (r ≡ 6)
+    ends_faulty bytes text served tells fault source_well sink_well = either 3 6 (of_faulty ends.0 ends.2 bytes text served tells fault source_well sink_well)

@@ -1,11 +1,5 @@
-pub mod Asking
-pub mod Chain
 pub mod Command
 pub mod Echoes
-pub mod Guest
-pub mod Orderly
 pub mod Printing
 pub mod Run
-pub mod Schedule
 pub mod Top
-pub mod World

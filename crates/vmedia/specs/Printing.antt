@@ -1,49 +1,30 @@
--- What the logs of a process's handles hold once each of its lines is answered.
-use Rattle.std.specs.Prelude.{ℕ, ◌≡◌, ◌<◌, Bool, List, [], length, slice_index_or, IsTrue, All, unwrap_or}
-use Rattle.v4l_const.specs.declared.model.Model.TheVariants.{Capture}
+-- What is printed of a script and its driver, and what is hashed.
+use Rattle.std.specs.Prelude.{ℕ, ◌+◌, List, [], ◌∷◌, ◌++◌, map, flat_map, All, unwrap_or}
+use Rattle.v4l_const.specs.declared.model.Model.{Model}
 use Rattle.vm_local.specs.declared.entry.Entry.{Entry}
 use Rattle.vm_local.specs.declared.entry.Entry.TheVariants.{Called}
+use Rattle.vm_local.specs.Log.{IsLegal}
 use Rattle.vm_local.specs.State.{opening}
-use Rattle.vm_script.specs.Grammar.{reads_as}
-use Rattle.vm_script.specs.Lines.{Numbered, lines_of, calls_of}
-use Rattle.vm_script.specs.Script.{ProcessLines}
-use Rattle.vm_script.specs.declared.line.LineKind.{LineKind}
-use Rattle.vm_script.specs.declared.line.LineKind.TheVariants.{OnHandle, Raw}
-use Rattle.vm_handle.specs.Handle.{HandleState, IsBuilt, fresh_handle, opened_by}
+use Rattle.vm_script.specs.Lines.{echoes_by_handle}
+use Rattle.vm_script.specs.Script.{ProcessLines, ScriptLines}
+use Rattle.vm_handle.specs.Handle.{HandleState}
 use Rattle.vm_handle.specs.Range.{IsOffered}
-use Rattle.vm_report.specs.Digest.{wires_from}
-use Rattle.vm_report.specs.Logs.{HandleLog}
-use Rattle.vm_report.specs.Text.{is_kind_of}
+use Rattle.vm_guest.specs.Guest.{GuestState}
+use Rattle.vm_report.specs.Digest.{wires_from, logs_of}
+use Rattle.vm_report.specs.Logs.{HandleLog, Logs, handle_logs}
+use Rattle.vm_report.specs.Text.{Words, handle_text}
 
--- a call that is built, with a reply of its kind
-abbrev pub IsAnswer : Entry → Type 0
-IsAnswer (Called line call reply) = IsBuilt call × IsTrue (is_kind_of call reply)
-IsAnswer e = ⊥
+-- the handles of each process
+abbrev pub handles_of : GuestState → List (List HandleState)
+handles_of g = map (λ p. p.handles) g.processes
 
--- a capture device's handle whose log holds nothing but such answers
-pub record IsAnswered (h : HandleState) : Type 0 where
-  pub model : h.model ≡ Capture
-  pub entries : All IsAnswer h.entries
+-- the logs of a script's handles, as the driver has them
+abbrev pub logs_of_guest : ScriptLines → GuestState → Logs
+logs_of_guest script g = logs_of script (handles_of g)
 
--- a capture device's handle whose log answers just these calls, in order
-pub record Answers (asked : List Numbered) (h : HandleState) : Type 0 where
-  pub model : h.model ≡ Capture
-  pub entries : All IsAnswer h.entries
-  pub calls : calls_of h.entries ≡ asked
-
--- each handle's log answers the calls of the lines on it, in order
-abbrev pub AllAnswered : ProcessLines → List HandleState → Type 0
-AllAnswered process handles =
-    (h : ℕ) → h < length handles → Answers (lines_of h process.lines) (slice_index_or handles h (fresh_handle Capture 0))
-
--- the words of a line on a handle read as its call, with the handle's name
-abbrev pub ReadsAs : List (List ℕ) → List ℕ → LineKind → Type 0
-ReadsAs names echo (OnHandle h call) = (h < length names) × IsTrue (reads_as echo (slice_index_or names h []) call)
-ReadsAs names echo (Raw chain) = Unit {0}
-
--- each line of a process reads as what it asks for
-abbrev pub AllRead : ProcessLines → Type 0
-AllRead process = All (λ l. ReadsAs process.handles l.echo l.what) process.lines
+-- the script's own words, handle by handle; no raw line is built
+abbrev pub words_of : ScriptLines → Words
+words_of script = record { calls = flat_map echoes_by_handle script.processes; raws = [] }
 
 -- ---- printing
 
@@ -51,14 +32,35 @@ AllRead process = All (λ l. ReadsAs process.handles l.echo l.what) process.line
 abbrev pub handle_log : ℕ → List ℕ → HandleState → HandleLog
 handle_log process name h = record { process = process; name = name; session = h.session; entries = h.entries }
 
--- what crossed for a capture device's handle
-abbrev pub crossed : HandleState → List ℕ
-crossed h = wires_from (unwrap_or h.session 0) (opening Capture) h.entries
+-- each handle's head and its log, with the words of its calls
+abbrev pub listed_text : List HandleLog → List (List (List ℕ)) → List ℕ
+listed_text [] words = []
+listed_text (h ∷ hs) [] = []
+listed_text (h ∷ hs) (echoes ∷ words) = handle_text h echoes ++ listed_text hs words
 
--- whether a handle is open after an entry, where it was open or not before
-abbrev pub opened_after : Bool → Entry → Bool
-opened_after was (Called line call reply) = opened_by was call reply
-opened_after was e = was
+-- a process's handles, in the script's words
+abbrev pub own_text : ℕ → ProcessLines → List HandleState → List ℕ
+own_text process p handles = listed_text (handle_logs process p.handles handles) (echoes_by_handle p)
+
+-- the same of each process from this number on
+abbrev pub own_texts : ℕ → List ProcessLines → List (List HandleState) → List ℕ
+own_texts process [] handles = []
+own_texts process (p ∷ ps) [] = []
+own_texts process (p ∷ ps) (hs ∷ rest) = own_text process p hs ++ own_texts (process + 1) ps rest
+
+-- ---- hashing
+
+-- each log is legal on a device of this model
+abbrev pub AreLegal : Model → List HandleState → Type 0
+AreLegal model handles = All (λ h. IsLegal model h.entries) handles
+
+-- what crossed for a handle of a device of this model
+abbrev pub crossed : Model → HandleState → List ℕ
+crossed model h = wires_from (unwrap_or h.session 0) (opening model) h.entries
+
+-- what crossed for handles, in order
+abbrev pub all_crossed : Model → List HandleState → List ℕ
+all_crossed model handles = flat_map (crossed model) handles
 
 -- a format in an entry's reply is one that the device offers
 abbrev pub TellsOffered : Entry → Type 0

@@ -1,13 +1,15 @@
 -- What the top call answers and writes.
-use Rattle.std.specs.Prelude.{ℕ, ◌≡◌, ◌<◌, ◌≤◌, ◌⊎◌, ◌++◌, List, length, codes, Option, None, Ok, Err, IsSome, IfSome}
+use Rattle.std.specs.Prelude.{ℕ, ◌≡◌, ◌<◌, ◌≤◌, ◌⊎◌, ◌++◌, List, length, codes, Option, None, Some, Ok, Err, IsSome, IfSome}
 use Rattle.std.specs.Fmt.{decimal}
-use Rattle.vm_io.specs.Bytes.{WasAppended, PartAppended}
+use Rattle.vm_io.specs.Bytes.{NothingLeft, WasAppended, PartAppended}
 use Rattle.vm_io.specs.Faults.{Rose}
 use Rattle.vm_script.specs.declared.fault.ScriptFault.{ScriptFault}
 use Rattle.vm_script.specs.declared.fault.ScriptKind.{ScriptKind}
 use Rattle.vm_script.specs.declared.fault.ScriptKind.TheVariants.{Word, Name, Number, TooManyProcesses, TooManyLines, OpenTwice, NotDeclared, WellFormedRaw, NotBuilt}
 use Rattle.vm_script.specs.Script.{ScriptLines}
 use Rattle.vm_script.specs.Grammar.{script_of}
+use Rattle.vmedia.specs.declared.ending.Ending.{Ending}
+use Rattle.vmedia.specs.declared.ending.Ending.TheVariants.{Ran, BadWords, BadScript, SourceFailed, SinkFailed, NoMemory}
 use Rattle.vmedia.specs.Command.{seed_in}
 use Rattle.vmedia.specs.Run.{IsRun}
 
@@ -15,6 +17,7 @@ use Rattle.vmedia.specs.Run.{IsRun}
 abbrev pub script_limit : ℕ
 script_limit = 4194304
 
+-- the line that says which command lines there are
 abbrev pub usage_line : List ℕ
 usage_line = codes "usage: vmedia check | step SEED | bulk N | run W\n"
 
@@ -33,62 +36,117 @@ kind_text NotBuilt = codes "NotBuilt"
 abbrev pub fault_line : ℕ → List ℕ → List ℕ
 fault_line line kind = codes "script " ++ decimal line ++ codes " " ++ kind ++ codes "\n"
 
--- The bytes are no script, and the line tells the first fault; too many bytes are told as line 0.
-abbrev pub TellsFault : List ℕ → List ℕ → Type 0
-TellsFault bytes text =
-    ((script_limit < length bytes) × (text ≡ fault_line 0 (codes "TooLong")))
-    ⊎ ((length bytes ≤ script_limit) × ((f : ScriptFault) × (script_of bytes ≡ Err f) × (text ≡ fault_line f.line (kind_text f.kind))))
-
--- The bytes are a script, and the text is that of a legal run of it.
-abbrev pub TellsRun : List ℕ → List ℕ → Type 0
-TellsRun bytes text = (length bytes ≤ script_limit) × ((s : ScriptLines) × (script_of bytes ≡ Ok s) × IsRun s text)
-
--- the statuses with which a text is written
-abbrev pub run_status : ℕ
-run_status = 0
-
-abbrev pub usage_status : ℕ
-usage_status = 2
-
-abbrev pub script_status : ℕ
-script_status = 3
-
--- the text is one with which the served words and the source's bytes, where it tells them, are answered
-abbrev pub IsAnswer : Option (List ℕ) → ℕ → List ℕ → Type 0
-IsAnswer left status text =
-    ((status ≡ run_status) × IfSome left (λ bytes. TellsRun bytes text))
-    ⊎ ((status ≡ script_status) × IfSome left (λ bytes. TellsFault bytes text))
-
 -- the line for too many bytes
 abbrev pub too_long_line : List ℕ
 too_long_line = fault_line 0 (codes "TooLong")
 
--- the text is one with which these words and bytes are answered
-abbrev pub Tells : List (List ℕ) → Option (List ℕ) → ℕ → List ℕ → Type 0
-Tells words left status text =
-    ((status ≡ usage_status) × (seed_in words ≡ None) × (text ≡ usage_line))
-    ⊎ (IsSome (seed_in words) × IsAnswer left status text)
+-- ---- what is told
 
--- The text was written whole, or the sink's faults rose and a front of it went out.
-abbrev pub IsWritten : Option (List ℕ) → Option (List ℕ) → ℕ → ℕ → List ℕ → ℕ → ℕ → Type 0
-IsWritten held held' faults faults' text status result =
-    ((result ≡ status) × WasAppended held held' text)
-    ⊎ ((result ≡ 5) × Rose faults faults' × PartAppended held held' text)
+-- The bytes are no script, and the line tells the first fault; too many bytes are told as line 0.
+abbrev pub TellsFault : List ℕ → List ℕ → Type 0
+TellsFault bytes text =
+    ((script_limit < length bytes) × (text ≡ too_long_line))
+    ⊎ ((length bytes ≤ script_limit)
+    × ((f : ScriptFault) × (script_of bytes ≡ Err f) × (text ≡ fault_line f.line (kind_text f.kind))))
 
--- How the program ends. A text with which the words and bytes are answered was written, whole or in part;
--- or nothing was written: the source's faults rose, or memory was wanting, and then the words are served.
-abbrev pub Ends : List (List ℕ) → Option (List ℕ) → Option (List ℕ) → Option (List ℕ) → ℕ → ℕ → ℕ → ℕ → ℕ → Type 0
-Ends words left held held' sink_faults sink_faults' source_faults source_faults' result =
-    ((status : ℕ) × (text : List ℕ) × Tells words left status text × IsWritten held held' sink_faults sink_faults' text status result)
-    ⊎ (((result ≡ 4) × IsSome (seed_in words) × Rose source_faults source_faults' × (held' ≡ held))
-    ⊎ ((result ≡ 6) × IsSome (seed_in words) × (held' ≡ held)))
+-- The text is that of a run of the script under the seed's schedule.
+abbrev pub IsRunUnder : ℕ → ScriptLines → List ℕ → Type 0
+IsRunUnder seed s text = IsRun seed s text
 
--- ---- the statuses, each with its cause
+-- The bytes are a script, and the text is that of its run under the seed's schedule.
+abbrev pub TellsRun : ℕ → List ℕ → List ℕ → Type 0
+TellsRun seed bytes text =
+    (length bytes ≤ script_limit) × ((s : ScriptLines) × (script_of bytes ≡ Ok s) × IsRunUnder seed s text)
 
--- the text was written whole
-abbrev pub WritesText : Option (List ℕ) → Option (List ℕ) → (List ℕ → Type 0) → Type 0
-WritesText held held' P = (text : List ℕ) × P text × WasAppended held held' text
+-- The text answers the source's bytes, where it tells them, to the command line with this seed.
+abbrev pub Answers : ℕ → Option (List ℕ) → Ending → List ℕ → Type 0
+Answers seed left Ran text = IfSome left (λ bytes. TellsRun seed bytes text)
+Answers seed left BadScript text = IfSome left (λ bytes. TellsFault bytes text)
+Answers seed left ending text = ⊥
 
--- the source's bytes, where it tells them, have this text
-abbrev pub ForBytes : Option (List ℕ) → (List ℕ → List ℕ → Type 0) → List ℕ → Type 0
-ForBytes left P text = IfSome left (λ bytes. P bytes text)
+-- The text answers these words and the source's bytes, and this ending goes with it. Three endings have no
+-- text.
+abbrev pub Tells : List (List ℕ) → Option (List ℕ) → Ending → List ℕ → Type 0
+Tells words left BadWords text = (seed_in words ≡ None) × (text ≡ usage_line)
+Tells words left ending text = (seed : ℕ) × (seed_in words ≡ Some seed) × Answers seed left ending text
+
+-- ---- the outside
+
+-- a source: the bytes that it has left, where it tells them, and how many of its calls failed
+pub record SourceView : Type 0 where
+  pub left : Option (List ℕ)
+  pub faults : ℕ
+
+-- a sink: the bytes that it holds, where it tells them, and how many of its calls failed
+pub record SinkView : Type 0 where
+  pub held : Option (List ℕ)
+  pub faults : ℕ
+
+-- what a call sees of its outside
+pub record Outside : Type 0 where
+  pub source : SourceView
+  pub sink : SinkView
+
+abbrev pub sink_view : Option (List ℕ) → ℕ → SinkView
+sink_view held faults = record { held = held; faults = faults }
+
+abbrev pub outside : Option (List ℕ) → ℕ → Option (List ℕ) → ℕ → Outside
+outside left read_faults held write_faults = record {
+  source = record { left = left; faults = read_faults };
+  sink = record { held = held; faults = write_faults };
+}
+
+-- The text went out whole, and no write failed.
+abbrev pub WroteAll : SinkView → SinkView → List ℕ → Type 0
+WroteAll before after text = WasAppended before.held after.held text × (after.faults ≡ before.faults)
+
+-- A write failed, and a front of the text had gone out before.
+abbrev pub WrotePart : SinkView → SinkView → List ℕ → Type 0
+WrotePart before after text = Rose before.faults after.faults × PartAppended before.held after.held text
+
+-- The text was written whole, and then the ending is the one that was to be told; or the sink failed.
+abbrev pub IsWritten : SinkView → SinkView → List ℕ → Ending → Ending → Type 0
+IsWritten before after text told ending =
+    ((ending ≡ told) × WroteAll before after text) ⊎ ((ending ≡ SinkFailed) × WrotePart before after text)
+
+-- ---- the endings
+
+-- the status with which the program ends
+abbrev pub status_of : Ending → ℕ
+status_of Ran = 0
+status_of BadWords = 2
+status_of BadScript = 3
+status_of SourceFailed = 4
+status_of SinkFailed = 5
+status_of NoMemory = 6
+
+-- no read failed
+abbrev pub ReadsWell : Outside → Outside → Type 0
+ReadsWell before after = after.source.faults ≡ before.source.faults
+
+-- What goes with the ending was written whole, and no call failed.
+abbrev pub IsTold : List (List ℕ) → Outside → Outside → Ending → Type 0
+IsTold words before after ending =
+    ReadsWell before after
+    × ((text : List ℕ) × Tells words before.source.left ending text × WroteAll before.sink after.sink text)
+
+-- How the program ends: what each ending says of the words, and of the outside before and after.
+abbrev pub Ends : List (List ℕ) → Outside → Outside → Ending → Type 0
+Ends words before after Ran = IsTold words before after Ran × NothingLeft after.source.left
+Ends words before after BadWords = IsTold words before after BadWords × (after.source.left ≡ before.source.left)
+Ends words before after BadScript = IsTold words before after BadScript
+Ends words before after SourceFailed =
+    IsSome (seed_in words) × Rose before.source.faults after.source.faults × (after.sink ≡ before.sink)
+Ends words before after SinkFailed =
+    ReadsWell before after
+    × ((told : Ending) × (text : List ℕ) × Tells words before.source.left told text
+    × WrotePart before.sink after.sink text)
+Ends words before after NoMemory = IsSome (seed_in words) × ReadsWell before after × (after.sink ≡ before.sink)
+
+-- The program ends with this status.
+abbrev pub EndsWith : List (List ℕ) → Outside → Outside → ℕ → Type 0
+EndsWith words before after status = (ending : Ending) × (status ≡ status_of ending) × Ends words before after ending
+
+-- a text of this kind was written whole
+abbrev pub Wrote : Option (List ℕ) → Option (List ℕ) → (List ℕ → Type 0) → Type 0
+Wrote held held' P = (text : List ℕ) × P text × WasAppended held held' text

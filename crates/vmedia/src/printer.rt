@@ -1,27 +1,23 @@
-//! Prints the logs of handles.
+//! Prints the logs of a script's handles.
 
 ghost use Rattle.std.specs.Prelude.{◌≡◌, ◌++◌, OnOk, IfOk, codes, length, map};
 ghost use Rattle.std.specs.Fmt.{decimal};
 ghost use Rattle.hex.specs.Hex.{encode_lower};
-ghost use Rattle.vm_script.specs.Lines.{echoes_by_handle};
-ghost use Rattle.vm_report.specs.Digest.{logs_of_process};
+ghost use Rattle.vm_guest.specs.Guest.{IsDriver};
 ghost use Rattle.vm_report.specs.Logs.{handle_logs};
-ghost use Rattle.vm_report.specs.Text.{session_text, call_text, head_text, entries_text, handles_text, text_of};
-ghost use Rattle.vmedia.specs.Printing.{AllAnswered, handle_log};
+ghost use Rattle.vm_report.specs.Text.{session_text, call_text, head_text, entries_text, handle_text, text_of};
+ghost use Rattle.vmedia.specs.Printing.{handles_of, logs_of_guest, words_of, handle_log, listed_text, own_text, own_texts};
 
 use crate::digest::digest;
 use crate::echoes::{Echoes, group_echoes};
 use crate::reply_text::push_reply;
 use itoa::Buffer;
 use std::alloc::Global;
-use v4l_const::Model;
+use vm_guest::Guest;
 use vm_handle::Handle;
 use vm_local::{Entry, Name, Reply};
 use vm_mem::Memory;
-use vm_script::{Echo, Process};
-
-/// The number of the one process.
-const PROCESS: u32 = 0;
+use vm_script::{Echo, Process, Script};
 
 /// How many hex digits a digest has.
 const DIGEST_DIGITS: usize = 64;
@@ -107,7 +103,7 @@ fn push_handle(
     handle: &Handle,
     echoes: &Echoes,
 ) -> Result<(), Memory>
-    ensures { OnOk result (text.new.items ≡ text.old.items ++ (head_text (handle_log process name.now handle.now) ++ entries_text handle.now.entries echoes.now)) }
+    ensures { OnOk result (text.new.items ≡ text.old.items ++ handle_text (handle_log process name.now handle.now) echoes.now) }
 {
     push_head(text, process, name, handle)?;
     push_entries(text, handle.log(), echoes.lines())
@@ -123,10 +119,44 @@ fn push_handles(
 ) -> Result<(), Memory>
     requires names { length names.now ≡ length handles.now }
     requires words { length words.now ≡ length handles.now }
-    ensures { OnOk result (text.new.items ≡ text.old.items ++ handles_text (handle_logs process names.now handles.now) words.now) }
+    ensures { OnOk result (text.new.items ≡ text.old.items ++ listed_text (handle_logs process names.now handles.now) words.now) }
 {
     for (at, handle) in handles.iter().enumerate() {
         push_handle(text, process, &names[at], handle, &words[at])?;
+    }
+    Ok(())
+}
+
+// Adds the handles of a process, with the words of its lines.
+#[tactic(auto, using(crate::proofs::EchoLemmas::length_echoes))]
+fn push_process(
+    alloc: Global,
+    text: &mut Vec<u8>,
+    number: u32,
+    process: &Process,
+    handles: &[Handle],
+) -> Result<(), Memory>
+    requires { length handles.now ≡ length process.now.handles }
+    ensures { OnOk result (text.new.items ≡ text.old.items ++ own_text number process.now handles.now) }
+{
+    let words = group_echoes(alloc, &process.handles, &process.lines)?;
+    push_handles(text, number, &process.handles, handles, &words)
+}
+
+// Adds the handles of each process.
+fn push_processes(
+    alloc: Global,
+    text: &mut Vec<u8>,
+    script: &Script,
+    guest: &Guest,
+) -> Result<(), Memory>
+    requires { IsDriver script.now guest.now }
+    ensures { OnOk result (text.new.items ≡ text.old.items ++ own_texts 0 script.now.processes (handles_of guest.now)) }
+{
+    for (at, process) in script.processes.iter().enumerate() {
+        let number = at as u32;
+        let handles = guest.handles(number).unwrap();
+        push_process(alloc, text, number, process, handles)?;
     }
     Ok(())
 }
@@ -142,19 +172,17 @@ fn push_end(text: &mut Vec<u8>, digest: &[u8; 32]) -> Result<(), Memory>
     push(text, b"\n")
 }
 
-/// The printed text of a process's handles: each handle's head and log, and the digest of what crossed for them.
+/// The printed text of a script's driver: each process's handles with their logs, and the digest of what crossed for
+/// them.
 ///
 /// # Errors
 /// `Memory` where there is none for the text.
-#[tactic(auto, using(crate::proofs::EchoLemmas::length_echoes, crate::proofs::DigestLemmas::crossed_all))]
-pub fn print(alloc: Global, process: &Process, handles: &[Handle]) -> Result<Vec<u8>, Memory>
-    requires handles { length handles.now ≡ length process.now.handles }
-    requires answered { AllAnswered process.now handles.now }
-    ensures { IfOk result (λ text. text.items ≡ text_of (logs_of_process Model.Capture 0 process.now.handles handles.now) (echoes_by_handle process.now)) }
+pub fn print(alloc: Global, script: &Script, guest: &Guest) -> Result<Vec<u8>, Memory>
+    requires { IsDriver script.now guest.now }
+    ensures { IfOk result (λ text. text.items ≡ text_of (logs_of_guest script.now guest.now) (words_of script.now)) }
 {
-    let words = group_echoes(alloc, &process.handles, &process.lines)?;
     let mut text = Vec::new(alloc);
-    push_handles(&mut text, PROCESS, &process.handles, handles, &words)?;
-    push_end(&mut text, &digest(handles))?;
+    push_processes(alloc, &mut text, script, guest)?;
+    push_end(&mut text, &digest(script, guest))?;
     Ok(text)
 }

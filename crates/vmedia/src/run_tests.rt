@@ -1,10 +1,11 @@
 ghost use Rattle.std.specs.Prelude.{◌<◌, ◌-◌, ◌^◌, length};
 
-use crate::run::run_over;
+use crate::run::run_world;
 use std::test::Fail;
 use vm_chain::Chain;
 use vm_link::{Finished, Link, Parcel, PlainLink, QueueId, Taken};
 use vm_script::read_script;
+use vm_world::World;
 
 /// A link that counts what goes over it.
 #[derive(Drop)]
@@ -79,8 +80,9 @@ fn opens_and_the_calls_of_open_handles_cross(rt: HostRuntime) -> Result<(), Fail
             finished: 0,
             collected: 0,
         };
-        let ran = run_over(rt.alloc(), script, link, 7)?;
-        let link = &ran.link;
+        let mut world = World::new(rt.alloc(), script, link)?;
+        run_world(rt.alloc(), &mut world, 7)?;
+        let link = world.link();
         for count in [link.posted, link.taken, link.finished, link.collected] {
             assert_eq!(rt; count, crossings);
         }

@@ -1,14 +1,16 @@
 //! The top call: words, bytes and an outside in, a status and a text out.
 
-ghost use Rattle.std.specs.Prelude.{◌≡◌, ◌≤◌, ◌⊎◌, List, ℕ, None, Some, Ok, IfOk, IsErrOf, IsSome, length, map};
+ghost use Rattle.std.specs.Prelude.{◌≡◌, ◌≤◌, ◌⊎◌, List, ℕ, None, Some, Ok, Err, IfOk, IsErrOf, IsSome, length, map};
 ghost use Rattle.std.specs.String.{string_bytes};
 ghost use Rattle.vm_io.specs.Bytes.{NothingLeft, WasAppended, PartAppended};
 ghost use Rattle.vm_io.specs.Faults.{Rose};
 ghost use Rattle.vm_script.specs.Grammar.{script_of};
 ghost use Rattle.vm_script.specs.Script.{ScriptLines};
+ghost use Rattle.vmedia.specs.declared.ending.Ending.{Ending};
 ghost use Rattle.vmedia.specs.Command.{seed_in};
-ghost use Rattle.vmedia.specs.Top.{script_limit, script_status, kind_text, fault_line, too_long_line, usage_line, IsAnswer, IsWritten, Tells, TellsRun, TellsFault, WritesText, ForBytes, Ends};
+ghost use Rattle.vmedia.specs.Top.{script_limit, kind_text, fault_line, too_long_line, usage_line, Answers, Tells, TellsFault, IsWritten, Wrote, Ends, EndsWith, outside, sink_view};
 
+use crate::ending::Ending;
 use crate::judge::seed_in;
 use crate::printer::{push, push_number};
 use crate::run::run;
@@ -22,23 +24,10 @@ const SCRIPT_LIMIT: usize = 4_194_304;
 /// The line that says which command lines there are.
 const USAGE: &[u8] = b"usage: vmedia check | step SEED | bulk N | run W\n";
 
-/// The script was run, and its text written.
-const RUN: u8 = 0;
-/// The words are none of the command lines that are served.
-const BAD_WORDS: u8 = 2;
-/// The script has a faulty line, or too many bytes.
-const BAD_SCRIPT: u8 = 3;
-/// The source failed.
-const SOURCE_FAILED: u8 = 4;
-/// The sink failed.
-const SINK_FAILED: u8 = 5;
-/// Memory was wanting.
-pub const NO_MEMORY: u8 = 6;
-
-// A text that is to be written, and the status with which the program then ends.
+// A text that is to be written, and the ending that goes with it.
 #[derive(Drop)]
 struct Answer {
-    status: u8,
+    ending: Ending,
     text: Vec<u8>,
 }
 
@@ -47,6 +36,16 @@ struct Answer {
 enum Failure {
     Source,
     Memory,
+}
+
+impl From<Memory> for Failure {
+    ghost use Rattle.vmedia.specs.declared.top.Failure.TheVariants.{Memory};
+
+    ghost from_gives = { λ _ failure. failure ≡ Memory };
+
+    fn from(_wanting: Memory) -> Failure {
+        Failure::Memory
+    }
 }
 
 // A kind of fault, as it is printed.
@@ -81,10 +80,10 @@ fn fault_line(alloc: Global, line: u32, kind: &[u8]) -> Result<Vec<u8>, Memory>
 
 // What is answered to more bytes than a script has.
 fn too_long(alloc: Global) -> Result<Answer, Memory>
-    ensures { IfOk result (λ a. (a.status ≡ script_status) × (a.text.items ≡ too_long_line)) }
+    ensures { IfOk result (λ a. (a.ending ≡ Ending.BadScript) × (a.text.items ≡ too_long_line)) }
 {
     Ok(Answer {
-        status: BAD_SCRIPT,
+        ending: Ending::BadScript,
         text: fault_line(alloc, 0, b"TooLong")?,
     })
 }
@@ -92,61 +91,62 @@ fn too_long(alloc: Global) -> Result<Answer, Memory>
 // What is answered to a script's bytes.
 fn answer_to_bytes(alloc: Global, bytes: &[u8], seed: u64) -> Result<Answer, Memory>
     requires { length bytes.now ≤ script_limit }
-    ensures { IfOk result (λ a. IsAnswer (Some bytes.now) a.status a.text.items) }
+    ensures { IfOk result (λ a. Answers seed (Some bytes.now) a.ending a.text.items) }
 {
     match read_script(alloc, bytes) {
         Ok(script) => Ok(Answer {
-            status: RUN,
+            ending: Ending::Ran,
             text: run(alloc, script, seed)?,
         }),
         Err(ScriptError::Fault(fault)) => Ok(Answer {
-            status: BAD_SCRIPT,
+            ending: Ending::BadScript,
             text: fault_line(alloc, fault.line, kind_text(fault.kind))?,
         }),
         Err(ScriptError::Memory) => Err(Memory),
     }
 }
 
-// What is answered to what the source gives.
+// What is answered to what the source gives. A read that failed isn't tried again.
 fn answer_to_source<S: Source>(alloc: Global, src: &mut S, seed: u64) -> Result<Answer, Failure>
-    ensures ok { IfOk result (λ a. IsAnswer (S.left src.old) a.status a.text.items) }
-    ensures read { IfOk result (λ a. a.status ≡ 0 → NothingLeft (S.left src.new)) }
+    ensures ok { IfOk result (λ a. Answers seed (S.left src.old) a.ending a.text.items) }
+    ensures read { IfOk result (λ a. a.ending ≡ Ending.Ran → NothingLeft (S.left src.new)) }
     ensures source { IsErrOf result Failure.Source → Rose (S.faults src.old) (S.faults src.new) }
+    ensures well { ¬ (IsErrOf result Failure.Source) → S.faults src.new ≡ S.faults src.old }
 {
     let answer = match read_all(alloc, src, SCRIPT_LIMIT) {
-        Ok(bytes) => answer_to_bytes(alloc, &bytes, seed),
-        Err(ReadError::TooLong) => too_long(alloc),
+        Ok(bytes) => answer_to_bytes(alloc, &bytes, seed)?,
+        Err(ReadError::TooLong) => too_long(alloc)?,
         Err(ReadError::ReadFault) => return Err(Failure::Source),
         Err(ReadError::Memory) => return Err(Failure::Memory),
     };
-    match answer {
-        Ok(answer) => Ok(answer),
-        Err(Memory) => Err(Failure::Memory),
-    }
+    Ok(answer)
 }
 
-// Writes a text, and gives its status, or that of a failing sink.
-fn write<K: Sink>(sink: &mut K, text: &[u8], status: u8) -> u8
-    ensures { IsWritten (K.held sink.old) (K.held sink.new) (K.faults sink.old) (K.faults sink.new) text.now status result }
+// Writes a text, and gives its ending, or that of a failing sink. A write that failed isn't tried again.
+fn write<K: Sink>(sink: &mut K, text: &[u8], told: Ending) -> Ending
+    ensures { IsWritten (sink_view (K.held sink.old) (K.faults sink.old))
+        (sink_view (K.held sink.new) (K.faults sink.new)) text.now told result }
 {
     match write_all(sink, text) {
-        Ok(()) => status,
-        Err(WriteFault) => SINK_FAILED,
+        Ok(()) => told,
+        Err(WriteFault) => Ending::SinkFailed,
     }
 }
 
-// Serves the words: what was written, and why, stands in one clause, of which the top call's clauses follow.
-fn serve<S: Source, K: Sink>(alloc: Global, words: &[String], src: &mut S, sink: &mut K) -> u8
-    ensures ends { Ends (map string_bytes words.now) (S.left src.old) (K.held sink.old) (K.held sink.new) (K.faults sink.old) (K.faults sink.new) (S.faults src.old) (S.faults src.new) result }
-    ensures read { result ≡ 0 → NothingLeft (S.left src.new) }
+// Serves the words: the top call's clauses follow of the ending.
+fn serve<S: Source, K: Sink>(alloc: Global, words: &[String], src: &mut S, sink: &mut K) -> Ending
+    ensures ends { Ends (map string_bytes words.now)
+        (outside (S.left src.old) (S.faults src.old) (K.held sink.old) (K.faults sink.old))
+        (outside (S.left src.new) (S.faults src.new) (K.held sink.new) (K.faults sink.new)) result }
+    ensures untouched { seed_in (map string_bytes words.now) ≡ None → src.new ≡ src.old }
 {
     let Some(seed) = seed_in(words) else {
-        return write(sink, USAGE, BAD_WORDS);
+        return write(sink, USAGE, Ending::BadWords);
     };
     match answer_to_source(alloc, src, seed) {
-        Ok(answer) => write(sink, &answer.text, answer.status),
-        Err(Failure::Source) => SOURCE_FAILED,
-        Err(Failure::Memory) => NO_MEMORY,
+        Ok(answer) => write(sink, &answer.text, answer.ending),
+        Err(Failure::Source) => Ending::SourceFailed,
+        Err(Failure::Memory) => Ending::NoMemory,
     }
 }
 
@@ -162,6 +162,10 @@ fn serve<S: Source, K: Sink>(alloc: Global, words: &[String], src: &mut S, sink:
 /// | 5 | the sink failed | a front of what was to be written |
 /// | 6 | memory was wanting | nothing |
 ///
+/// Nothing that failed is tried again. So the source's count of faults stays with every status but 4, and
+/// the sink's with every one but 5. With 4 or 5 the count rose; one that stands at 2^64 - 1 can rise no
+/// more, and counts as risen.
+///
 /// Source: own.
 pub fn top_plain<S: Source, K: Sink, E: Engine>(
     alloc: Global,
@@ -171,29 +175,69 @@ pub fn top_plain<S: Source, K: Sink, E: Engine>(
     engine: &mut E,
 ) -> u8
     // The usage line was written whole, and the words are none of the served command lines.
-    ensures usage { result ≡ 2 → (seed_in (map string_bytes words.now) ≡ None) × WasAppended (K.held sink.old) (K.held sink.new) usage_line }
+    ensures usage { result ≡ 2 → (seed_in (map string_bytes words.now) ≡ None)
+        × WasAppended (K.held sink.old) (K.held sink.new) usage_line }
     // Such words have no other status, unless the sink fails.
     ensures bad_words { seed_in (map string_bytes words.now) ≡ None → (result ≡ 2) ⊎ (result ≡ 5) }
+    // For them the source isn't touched.
+    ensures untouched { seed_in (map string_bytes words.now) ≡ None → src.new ≡ src.old }
     // The bytes are a script, and what was written is the text of a legal run of it.
-    ensures run { result ≡ 0 → IsSome (seed_in (map string_bytes words.now)) × WritesText (K.held sink.old) (K.held sink.new) (ForBytes (S.left src.old) TellsRun) }
+    ensures run { result ≡ 0 → Wrote (K.held sink.old) (K.held sink.new)
+        (Tells (map string_bytes words.now) (S.left src.old) Ending.Ran) }
     // They were read to their end.
     ensures read { result ≡ 0 → NothingLeft (S.left src.new) }
     // The bytes are no script, or too many, and what was written tells the first fault.
-    ensures script { result ≡ 3 → IsSome (seed_in (map string_bytes words.now)) × WritesText (K.held sink.old) (K.held sink.new) (ForBytes (S.left src.old) TellsFault) }
+    ensures script { result ≡ 3 → Wrote (K.held sink.old) (K.held sink.new)
+        (Tells (map string_bytes words.now) (S.left src.old) Ending.BadScript) }
     // The source's faults rose, and nothing was written.
-    ensures source { result ≡ 4 → Rose (S.faults src.old) (S.faults src.new) × (K.held sink.new ≡ K.held sink.old) }
+    ensures source { result ≡ 4 → Rose (S.faults src.old) (S.faults src.new)
+        × (K.held sink.new ≡ K.held sink.old) }
+    // With no other status did a read fail.
+    ensures reads_well { ¬ (result ≡ 4) → S.faults src.new ≡ S.faults src.old }
     // The sink's faults rose, and a front of a text went out that these words and bytes have.
     ensures sink { result ≡ 5 → Rose (K.faults sink.old) (K.faults sink.new)
-        × ((status : ℕ) × (text : List ℕ) × Tells (map string_bytes words.now) (S.left src.old) status text × PartAppended (K.held sink.old) (K.held sink.new) text) }
+        × ((told : Ending) × (text : List ℕ)
+        × Tells (map string_bytes words.now) (S.left src.old) told text
+        × PartAppended (K.held sink.old) (K.held sink.new) text) }
+    // With no other status did a write fail.
+    ensures writes_well { ¬ (result ≡ 5) → K.faults sink.new ≡ K.faults sink.old }
     // Memory was wanting, and nothing was written.
     ensures memory { result ≡ 6 → K.held sink.new ≡ K.held sink.old }
     // Good words and a script lead to a run, unless memory is wanting or the outside fails.
-    ensures complete { (bytes : List ℕ) (s : ScriptLines) → IsSome (seed_in (map string_bytes words.now)) → S.left src.old ≡ Some bytes → length bytes ≤ script_limit → script_of bytes ≡ Ok s
-        → ¬ Rose (S.faults src.old) (S.faults src.new) → ¬ Rose (K.faults sink.old) (K.faults sink.new) → (result ≡ 0) ⊎ (result ≡ 6) }
+    ensures complete { (bytes : List ℕ) (s : ScriptLines)
+        → IsSome (seed_in (map string_bytes words.now)) → S.left src.old ≡ Some bytes
+        → length bytes ≤ script_limit → script_of bytes ≡ Ok s
+        → ¬ Rose (S.faults src.old) (S.faults src.new)
+        → ¬ Rose (K.faults sink.old) (K.faults sink.new) → (result ≡ 0) ⊎ (result ≡ 6) }
+    // Good words and a faulty script lead to its fault, with the same exceptions.
+    ensures faulty { (bytes text : List ℕ)
+        → IsSome (seed_in (map string_bytes words.now)) → S.left src.old ≡ Some bytes
+        → TellsFault bytes text
+        → ¬ Rose (S.faults src.old) (S.faults src.new)
+        → ¬ Rose (K.faults sink.old) (K.faults sink.new) → (result ≡ 3) ⊎ (result ≡ 6) }
     // Each of these, in one: no other status comes.
-    ensures ends { Ends (map string_bytes words.now) (S.left src.old) (K.held sink.old) (K.held sink.new) (K.faults sink.old) (K.faults sink.new) (S.faults src.old) (S.faults src.new) result }
+    ensures ends { EndsWith (map string_bytes words.now)
+        (outside (S.left src.old) (S.faults src.old) (K.held sink.old) (K.faults sink.old))
+        (outside (S.left src.new) (S.faults src.new) (K.held sink.new) (K.faults sink.new)) result }
 {
     // No line that is built makes a job, so the engine has nothing to do yet.
     let _engine = engine;
-    serve(alloc, words, src, sink)
+    serve(alloc, words, src, sink).status()
+}
+
+/// What is answered to a command line with a word that isn't UTF-8, which `top_plain` can't be given: no such
+/// word is one of a command line that is served.
+///
+/// Source: own.
+pub fn top_bad_words<K: Sink>(sink: &mut K) -> u8
+    // The usage line was written whole.
+    ensures usage { result ≡ 2 → WasAppended (K.held sink.old) (K.held sink.new) usage_line
+        × (K.faults sink.new ≡ K.faults sink.old) }
+    // The sink's faults rose, and a front of the usage line went out.
+    ensures sink { result ≡ 5 → Rose (K.faults sink.old) (K.faults sink.new)
+        × PartAppended (K.held sink.old) (K.held sink.new) usage_line }
+    // No other status comes.
+    ensures status { (result ≡ 2) ⊎ (result ≡ 5) }
+{
+    write(sink, USAGE, Ending::BadWords).status()
 }

@@ -195,6 +195,13 @@ fn tells_a_failing_outside(rt: HostRuntime) -> Result<(), Fail> {
         assert_eq!(rt; told.status, 4);
         assert_eq!(rt; told.sink.held().len(), 0);
     }
+    // Words are judged before anything is read.
+    let told = answer_of(rt.alloc(), &["run", "5"], script, 10, &[1], &[])?;
+    assert_eq!(rt; told.status, 2);
+    assert_eq!(rt; told.sink.held(), USAGE);
+    let told = answer_of(rt.alloc(), &["run", "5"], script, 10, &[1], &[3])?;
+    assert_eq!(rt; told.status, 5);
+    assert_eq!(rt; told.sink.held(), &USAGE[..20]);
     // The text has 119 bytes, so the twelfth write is the last.
     for call in 1..13 {
         let told = answer_of(rt.alloc(), &["step", "0"], script, 10, &[], &[call])?;

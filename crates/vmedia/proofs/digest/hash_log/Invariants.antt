@@ -3,4 +3,4 @@ use Rattle.vmedia.proofs.DigestLemmas.{Follows}
 use Rattle.vmedia.proofs.digest.hash_log.Given as goal
 
 abbrev pub invariant-loop-entry : goal.invariant-loop-entry
-invariant-loop-entry l = Follows l.model l.session l.log (drop l.entry-index l.log) l.opened l.fn.hasher l.hasher
+invariant-loop-entry l = Follows l.fn.model l.session l.log (drop l.entry-index l.log) l.kept l.fn.hasher l.hasher

@@ -1,0 +1,24 @@
+-- What was written, and what was read before, as an ending.
+use Rattle.std.proofs.Common.{List, ℕ, map, refl, sym, ◌∙◌, subst}
+use Rattle.std.specs.String.{string_bytes}
+use Rattle.vmedia.specs.declared.ending.Ending.TheVariants.{BadWords}
+use Rattle.vmedia.specs.Top.{IsWritten, outside, sink_view, usage_line}
+use Rattle.vmedia.proofs.EndsLemmas.{ends_served, ends_written}
+use Rattle.vmedia.proofs.top.serve.Goals as goal
+
+pub returns-in_default-clause-ends : goal.returns-in_default-clause-ends
+returns-in_default-clause-ends g c =
+    ends_written (map string_bytes c.args.words.now)
+    (outside (g.S.Source.left c.args.src.now) (g.S.Source.faults c.args.src.now) (g.K.Sink.held c.args.sink.now) (g.K.Sink.faults c.args.sink.now))
+    (outside (g.S.Source.left c.args.src.now) (g.S.Source.faults c.args.src.now) (g.K.Sink.held c.write.new.sink) (g.K.Sink.faults c.write.new.sink))
+    usage_line BadWords c.write.result (sym c.seed_in.ensures ∙ c.in_default.is, refl) c.write.ensures refl (λ ran. cc) (λ bad. refl)
+
+pub returns-in-Ok-clause-ends : goal.returns-in-Ok-clause-ends
+returns-in-Ok-clause-ends g c =
+    let P : List ℕ → Type 0 = λ text. IsWritten (sink_view (g.K.Sink.held c.args.sink.now) (g.K.Sink.faults c.args.sink.now))
+    (sink_view (g.K.Sink.held c.write-in-Ok.new.sink) (g.K.Sink.faults c.write-in-Ok.new.sink)) text c.in-Ok.answer.ending c.write-in-Ok.result in
+    ends_served (map string_bytes c.args.words.now)
+    (outside (g.S.Source.left c.args.src.now) (g.S.Source.faults c.args.src.now) (g.K.Sink.held c.args.sink.now) (g.K.Sink.faults c.args.sink.now))
+    (outside (g.S.Source.left c.answer_to_source.new.src) (g.S.Source.faults c.answer_to_source.new.src) (g.K.Sink.held c.write-in-Ok.new.sink) (g.K.Sink.faults c.write-in-Ok.new.sink))
+    c.in-Some.seed c.in-Ok.answer.text.items c.in-Ok.answer.ending c.write-in-Ok.result (sym c.seed_in.ensures ∙ c.in-Some.is) c.in-Ok.ensures.ok
+    (subst P c.deref.ensures.value c.write-in-Ok.ensures) (c.in-Ok.ensures.well (λ failed. cc)) c.in-Ok.ensures.read
