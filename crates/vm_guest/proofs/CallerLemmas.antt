@@ -33,7 +33,7 @@ use Rattle.vm_guest.specs.declared.status.Status.{Status}
 use Rattle.vm_guest.specs.declared.status.Status.TheVariants.{AtRest}
 use Rattle.vm_guest.specs.Asking.{asked_at, statements_of}
 use Rattle.vm_guest.specs.Chain.{IsChain, Carries, with_command, reply_bytes}
-use Rattle.vm_guest.specs.Process.{ProcessState, is_at_rest, begun, current, next, crossing, no_handle, handle_in, crosses_in, crosses_by, handles_replied, Replies, RepliesTo, IsReplyTo, Answered, IsAnswered}
+use Rattle.vm_guest.specs.Process.{ProcessState, is_at_rest, begun, current, next, crossing, no_handle, handle_in, way_in, crosses_in, crosses_by, handles_replied, Replies, RepliesTo, IsReplyTo, Answered, IsAnswered}
 use Rattle.vm_guest.specs.Orderly.{out_on, IsOrderly}
 use Rattle.vm_guest.specs.Caller.{counted, IsOwn, HasChain, IsUsual, CanStart, Starts, CanLog, CanReply, Logs}
 use Rattle.vm_guest.proofs.LinesLemmas.{lines_of-count, lines_of-asked, lines_of-take, one_if, one_if-most}
@@ -122,7 +122,7 @@ sent_len d (Send len) = len
 -- a call that crosses stands in the chain
 starts_by : (w : Way) (a : Asked) (handles : List HandleState) (handle' : HandleState) (chain chain' : Parcel) (len : ℕ) (out out' part : List ℕ)
     → StartsCall w (handle_in handles a.handle) a.line a.call out (Send len) handle' out' → part ≡ take len out' → chain' ≡ with_command chain part → length part ≤ 4096
-    → Starts (crossing_by w) a handles chain true (set handles a.handle handle') chain'
+    → Starts w a handles chain true (set handles a.handle handle') chain'
 starts_by (Crosses c) a handles handle' chain chain' len out out' part starts front is small =
     let count : len ≡ length (command_bytes c) = ap (sent_len 0) starts.0 in
     let bytes : part ≡ command_bytes c = front ∙ ap (take len) starts.2 ∙ ap (λ (n : ℕ). take n (command_bytes c ++ drop (length (command_bytes c)) out)) count ∙ take-front (command_bytes c) _ in
@@ -141,7 +141,7 @@ stands_at (x ∷ xs) (suc i) d e within = stands_at xs i d e (omega (arith, with
 
 pub starts_sent : (a : Asked) (handles : List HandleState) (handle handle' : HandleState) (chain chain1 chain' : Parcel) (len : ℕ) (out out' part : List ℕ)
     → a.handle < length handles → handle ≡ get_or handles a.handle handle → StartsCall (way_from handle a.call) handle a.line a.call out (Send len) handle' out' → chain1 ≡ chain
-    → part ≡ take len out' → chain' ≡ with_command chain1 part → length part ≤ 4096 → Starts (crosses_in handles a) a handles chain true (set handles a.handle handle') chain'
+    → part ≡ take len out' → chain' ≡ with_command chain1 part → length part ≤ 4096 → Starts (way_in handles a) a handles chain true (set handles a.handle handle') chain'
 starts_sent a handles handle handle' chain chain1 chain' len out out' part within stands starts kept front is small =
     let same : handle ≡ handle_in handles a.handle = stands ∙ stands_at handles a.handle handle no_handle within in
     let P : HandleState → Type 0 = λ x. StartsCall (way_from x a.call) x a.line a.call out (Send len) handle' out' in
@@ -243,10 +243,13 @@ may_start p q a same orderly rests asks = can_start orderly.0 orderly.1 p a (sub
 carries_postable : (n : ℕ) (c : Command) (chain : Parcel) → Carries n c chain → IsPostable chain
 carries_postable n c chain is = subst IsPostable (sym is.is) (omega arith, omega arith, omega arith)
 
-pub may_post : (o : Option Command) (n : ℕ) (a : Asked) (handles handles' : List HandleState) (chain chain' : Parcel) (crosses : Bool)
-    → Starts o a handles chain crosses handles' chain' → crosses ≡ true → IsChain n chain → IsPostable chain'
-may_post (Some c) n a handles handles' chain chain' crosses starts is own = carries_postable n c chain' (starts.2 n own)
-may_post None n a handles handles' chain chain' crosses starts is own = absurd (let same : true ≡ false = sym is ∙ starts.0 in cc)
+pub may_post : (w : Way) (n : ℕ) (a : Asked) (handles handles' : List HandleState) (chain chain' : Parcel) (crosses : Bool)
+    → Starts w a handles chain crosses handles' chain' → crosses ≡ true → IsChain n chain → IsPostable chain'
+may_post (Crosses c) n a handles handles' chain chain' crosses starts is own = carries_postable n c chain' (starts.2 n own)
+may_post AnsweredHere n a handles handles' chain chain' crosses starts is own = absurd (let same : true ≡ false = sym is ∙ starts.0 in cc)
+may_post Waits n a handles handles' chain chain' crosses starts is own = absurd starts
+may_post TouchesMemory n a handles handles' chain chain' crosses starts is own = absurd starts
+may_post NotBuilt n a handles handles' chain chain' crosses starts is own = absurd starts
 
 -- ---- a statement is answered
 

@@ -1,6 +1,7 @@
 -- Lemmas on the driver's processes, where one of them begins a statement or is answered.
-use Rattle.std.proofs.Common.{◌≡◌, ◌≢◌, ℕ, zero, suc, ◌+◌, ◌<◌, ◌≤◌, true, false, List, [], ◌∷◌, take, Option, Some, None, length, get_or, set, refl, sym, ap, ◌∙◌, subst, arith, inl, inr}
+use Rattle.std.proofs.Common.{◌≡◌, ◌≢◌, ℕ, zero, suc, ◌+◌, ◌<◌, ◌≤◌, true, false, List, [], ◌∷◌, take, Option, Some, None, Ok, unwrap_or, length, get_or, slice_get, set, refl, sym, ap, ◌∙◌, subst, arith, inl, inr}
 use Rattle.std.proofs.lemmas.Bool.{cases_eq}
+use Rattle.std.proofs.lemmas.Option.{unwrap_or-slice_get}
 use Rattle.std.proofs.lemmas.List.{length-set, get_or-set_same, get_or-set_other, get_or_past}
 use Rattle.v4l_const.specs.declared.model.Model.{Model}
 use Rattle.vm_link.specs.Queue.{Queues, queue_at, with_queue, collected, first_finished}
@@ -8,15 +9,19 @@ use Rattle.vm_link.specs.declared.chains.DoneChain.{DoneChain}
 use Rattle.vm_link.specs.declared.link.Turn.{Turn}
 use Rattle.vm_link.specs.declared.link.Turn.TheVariants.{Did, Idle}
 use Rattle.vm_link.specs.declared.parcel.Finished.{Finished}
+use Rattle.vm_wire.specs.Message.Ask.{Judged}
 use Rattle.vm_wire.specs.declared.command.Command.{Command}
+use Rattle.vm_handle.specs.Exchange.{crossing as crossing_by}
 use Rattle.vm_handle.specs.Handle.{HandleState}
+use Rattle.vm_handle.specs.declared.way.Way.{Way}
+use Rattle.vm_handle.specs.declared.way.Way.TheVariants.{Crosses, AnsweredHere, Waits, TouchesMemory, NotBuilt}
 use Rattle.vm_script.specs.Reading.{IsReadProcess}
 use Rattle.vm_script.specs.Script.{ProcessLines, ScriptLines}
 use Rattle.vm_guest.specs.declared.asked.Asked.{Asked}
 use Rattle.vm_guest.specs.Chain.{reply_of, reply_bytes}
-use Rattle.vm_guest.specs.Process.{ProcessState, begun, next, crossing, handle_in, crosses_by, Begins, Issues, IsReplyTo, IsAnswered, IsFresh}
-use Rattle.vm_guest.specs.Orderly.{AnswersLines, out_on, Crosses, IsOrderly}
-use Rattle.vm_guest.specs.Guest.{GuestState, no_process, process_in, process_at, with_process, no_lines, lines_at, IsReadScript, IsDriver, IsFreshGuest, IssuesAt, Collected, Collects, IsReply}
+use Rattle.vm_guest.specs.Process.{ProcessState, begun, next, crossing, handle_in, way_by, sent, answered_here, Begins, Issues, IsReplyTo, IsAnswered, IsFresh}
+use Rattle.vm_guest.specs.Orderly.{AnswersLines, out_on, Crosses as StillCrosses, IsOrderly}
+use Rattle.vm_guest.specs.Guest.{GuestState, Posting, begins, no_process, process_in, process_at, with_process, no_lines, lines_at, IsReadScript, IsDriver, IsFreshGuest, IssuesAt, Collected, Collects, IsReply}
 use Rattle.vm_guest.proofs.OrderlyLemmas.{begun_at_rest, crossing_at_rest, orderly_sent, orderly_answered, orderly_replied}
 
 -- ---- a place behind the last process
@@ -28,6 +33,11 @@ set_past (x ∷ xs) (suc i) y past = ap (λ ys. x ∷ ys) (set_past xs i y (omeg
 
 pub process_past : (ps : List ProcessState) (n : ℕ) → length ps ≤ n → process_in ps n ≡ no_process
 process_past ps n past = get_or_past ps n no_process past
+
+-- a place where no process is found is behind the last one
+pub found_none : (g w : GuestState) (n : ℕ) (o : Option ProcessState) → g ≡ w → o ≡ slice_get g.processes n → o ≡ None → process_at w n ≡ no_process
+found_none g w n o same found none =
+    ap (λ x. process_at x n) (sym same) ∙ sym (unwrap_or-slice_get g.processes n no_process) ∙ ap (λ x. unwrap_or x no_process) (sym found ∙ none)
 
 -- where there is no such process, nothing is begun
 pub issues_past : (g : GuestState) (n : ℕ) (queues : Queues) → length g.processes ≤ n → IssuesAt n g queues Idle g queues
@@ -49,17 +59,20 @@ pub record IsKept (m : Model) (lines : ProcessLines) (p p' : ProcessState) : Typ
 pub kept_issued : (m : Model) (lines : ProcessLines) (p p' : ProcessState) (queues queues' : Queues) (turn : Turn) → IsOrderly m lines p → Issues (next p) p queues turn p' queues' → IsKept m lines p p'
 kept_issued m lines p p' queues queues' turn orderly issues = by_next (next p) refl issues
   where
-    by_way : (a : Asked) (o : Option Command) → next p ≡ Some a → crosses_by p a ≡ o → Begins o a p queues p' queues' → IsKept m lines p p'
-    by_way a (Some c) is crosses begins =
+    by_way : (a : Asked) (w : Way) → next p ≡ Some a → way_by p a ≡ w → Begins w a p queues p' queues' → IsKept m lines p p'
+    by_way a (Crosses c) is way begins =
         let P : ProcessState → Type 0 = λ x. IsKept m lines p x in
-        subst P (sym begins.2) (record { number = refl; orderly = orderly_sent m lines p a c orderly is crosses })
-    by_way a None is crosses begins =
+        subst P (sym begins.2) (record { number = refl; orderly = orderly_sent m lines p a c orderly is (ap crossing_by way) })
+    by_way a AnsweredHere is way begins =
         let P : ProcessState → Type 0 = λ x. IsKept m lines p x in
-        subst P (sym begins.0) (record { number = refl; orderly = orderly_answered m lines p a orderly is crosses })
+        subst P (sym begins.0) (record { number = refl; orderly = orderly_answered m lines p a orderly is (ap crossing_by way) })
+    by_way a Waits is way begins = absurd begins
+    by_way a TouchesMemory is way begins = absurd begins
+    by_way a NotBuilt is way begins = absurd begins
 
     by_next : (o : Option Asked) → next p ≡ o → Issues o p queues turn p' queues' → IsKept m lines p p'
     by_next None is issues = let P : ProcessState → Type 0 = λ x. IsKept m lines p x in subst P (sym issues.1) (record { number = refl; orderly = orderly })
-    by_next (Some a) is issues = by_way a (crosses_by p a) is refl issues.1
+    by_next (Some a) is issues = by_way a (way_by p a) is refl issues.1
 
 pub kept_answered : (m : Model) (lines : ProcessLines) (p p' : ProcessState) (bytes : List ℕ) → IsOrderly m lines p → IsAnswered p bytes p' → IsKept m lines p p'
 kept_answered m lines p p' bytes orderly answered =
@@ -67,6 +80,27 @@ kept_answered m lines p p' bytes orderly answered =
     let may = answered.answers.may in
     subst P (sym (answered.answers.after may.0 may.1))
     (record { number = refl; orderly = orderly_replied m lines p answered.asked may.0 _ orderly answered.on_its_way may.1 })
+
+-- ---- what is begun, by the command by which it crosses
+
+-- what crosses by a command is posted, and what doesn't cross is answered by the driver itself
+abbrev pub begun_as : GuestState → ℕ → Asked → Option Command → Posting
+begun_as g n a (Some c) = record {
+  guest = with_process g n (sent (process_at g n) a);
+  posts = record { who = n; asks = Judged (Ok c) } ∷ [];
+}
+begun_as g n a None = record { guest = with_process g n (answered_here (process_at g n) a); posts = [] }
+
+abbrev posting_or : Posting → Option Posting → Posting
+posting_or d None = d
+posting_or d (Some p) = p
+
+pub begins_as : (g : GuestState) (n : ℕ) (a : Asked) (w : Way) (posting : Posting) → begins g n a w ≡ Some posting → posting ≡ begun_as g n a (crossing_by w)
+begins_as g n a (Crosses c) posting does = sym (ap (posting_or posting) does)
+begins_as g n a AnsweredHere posting does = sym (ap (posting_or posting) does)
+begins_as g n a Waits posting does = cc
+begins_as g n a TouchesMemory posting does = cc
+begins_as g n a NotBuilt posting does = cc
 
 -- the driver with a process that is kept
 pub driver_with : (script : ScriptLines) (g : GuestState) (n : ℕ) (p' : ProcessState) → IsDriver script g → n < length g.processes → IsKept script.model (lines_at script n) (process_at g n) p' → IsDriver script (with_process g n p')
@@ -181,7 +215,7 @@ fresh_orderly m n lines p read fresh = record {
       let H : HandleState → Type 0 = λ x. AnswersLines m lines.lines [] [] h x in
       subst B (sym none) (subst A (sym fresh.answered) (subst H (sym (fresh.fresh h inside)) (record { model = refl; legal = refl; session = refl; calls = refl; begun = refl; lines = refl }))));
   out = λ h inside. (ap (λ x. x.sent) (fresh.fresh h inside) ∙ sym (ap (out_on h) (crossing_at_rest p fresh.status)));
-  crosses = subst (Crosses p) (sym (crossing_at_rest p fresh.status)) tt;
+  crosses = subst (StillCrosses p) (sym (crossing_at_rest p fresh.status)) tt;
 }
 
 pub fresh_driver : (script : ScriptLines) (g : GuestState) → IsReadScript script → IsFreshGuest script g → IsDriver script g

@@ -14,7 +14,7 @@ use Rattle.vm_local.specs.State.{LocalState, opening}
 use Rattle.vm_local.specs.Log.{IsLegal}
 use Rattle.vm_wire.specs.declared.command.Command.{Command}
 use Rattle.vm_wire.specs.declared.response.Response.{Response}
-use Rattle.vm_handle.specs.Exchange.{answer_here, way_of, crossing as crossing_by, from_open}
+use Rattle.vm_handle.specs.Exchange.{answer_here, way_of, touches_memory, crossing as crossing_by, from_open}
 use Rattle.vm_handle.specs.Handle.{HandleState, local_of, has_opened, asks, IsAnswer, Keeps, with_line, with_sent, with_entry, with_reply}
 use Rattle.vm_handle.specs.Record.{RecordState, recorded}
 use Rattle.vm_handle.specs.declared.sent.Sent.{Sent}
@@ -236,6 +236,20 @@ here_is id s (EnumInput i) built none = not_some s.opened _ none
 here_is id s GInput built none = not_some s.opened _ none
 here_is id s (SInput i) built none = not_some s.opened _ none
 here_is id s call built none = absurd built
+
+-- a call that is built touches no memory's bytes
+pub built_untouched : (call : Call) → IsBuilt call → touches_memory call ≡ false
+built_untouched (OpenHandle nonblock) built = refl
+built_untouched CloseHandle built = refl
+built_untouched QueryCap built = refl
+built_untouched (EnumFmt t i) built = refl
+built_untouched (GFmt t) built = refl
+built_untouched (TryFmt t f w h) built = refl
+built_untouched (SFmt t f w h) built = refl
+built_untouched (EnumInput i) built = refl
+built_untouched GInput built = refl
+built_untouched (SInput i) built = refl
+built_untouched call built = absurd built
 
 -- the fields of a handle keep its log
 kept : (h : HandleState) → IsLegal h.model h.entries → is_some h.session ≡ has_opened h.entries → Keeps h.model h.entries (recorded (local_of h)) (is_some h.session)

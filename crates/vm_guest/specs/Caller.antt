@@ -48,12 +48,15 @@ pub record CanStart (handles : List HandleState) (a : Asked) : Type 0 where
   pub more : (handle_in handles a.handle).begun < (handle_in handles a.handle).lines
   pub usual : IsUsual (way_from (handle_in handles a.handle) a.call)
 
--- A call on a handle is begun: what crosses stands in the chain, and what doesn't is answered.
-abbrev pub Starts : Option Command → Asked → List HandleState → Parcel → Bool → List HandleState → Parcel → Type 0
-Starts (Some c) a handles chain crosses handles' chain' =
+-- A call on a handle is begun: what crosses stands in the chain, and what the driver answers itself is answered.
+abbrev pub Starts : Way → Asked → List HandleState → Parcel → Bool → List HandleState → Parcel → Type 0
+Starts (Crosses c) a handles chain crosses handles' chain' =
     (crosses ≡ true) × (handles' ≡ handles_sent handles a) × ((p : ℕ) → IsChain p chain → Carries p c chain')
-Starts None a handles chain crosses handles' chain' =
+Starts AnsweredHere a handles chain crosses handles' chain' =
     (crosses ≡ false) × (handles' ≡ handles_answered handles a) × (chain' ≡ chain)
+Starts Waits a handles chain crosses handles' chain' = ⊥
+Starts TouchesMemory a handles chain crosses handles' chain' = ⊥
+Starts NotBuilt a handles chain crosses handles' chain' = ⊥
 
 -- What came back can be logged: it is a response to the command, which the call that is out may have.
 pub record CanLog (handles : List HandleState) (a : Asked) (c : Command) (f : Finished) : Type 0 where

@@ -16,11 +16,15 @@ command_page p = 16 + 2 * p
 abbrev pub reply_page : ℕ → ℕ
 reply_page p = 17 + 2 * p
 
+-- how many bytes a reply has room for
+abbrev pub reply_room : ℕ
+reply_room = 304
+
 -- a command of so many bytes at the front of the one page, and room for its reply at the front of the other
 abbrev pub chain_table : ℕ → ℕ → List Desc
 chain_table p len =
     record { addr = command_page p * 4096; len = len; flags = 1; next = 1 }
-    ∷ record { addr = reply_page p * 4096; len = 304; flags = 2; next = 0 }
+    ∷ record { addr = reply_page p * 4096; len = reply_room; flags = 2; next = 0 }
     ∷ []
 
 -- the two pages of a process, with these bytes

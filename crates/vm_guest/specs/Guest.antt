@@ -1,5 +1,6 @@
 -- The driver: its processes, and its part of each step. Nothing here reads the device's side.
-use Rattle.std.specs.Prelude.{ℕ, ◌≡◌, ◌<◌, ◌≤◌, Bool, true, List, [], ◌∷◌, Option, Some, None, Ok, All, length, slice_index_or, slice_set}
+use Rattle.std.specs.Prelude.{ℕ, ◌≡◌, ◌<◌, ◌≤◌, Bool, true, List, [], ◌∷◌, Option, Some, None, Ok, All, length, slice_get, slice_index_or, slice_set}
+use Rattle.std.specs.Option.{option_and_then}
 use Rattle.v4l_const.specs.declared.model.Model.{Model}
 use Rattle.vm_link.specs.Queue.{Queue, Queues, queue_at, with_queue}
 use Rattle.vm_link.specs.declared.chains.DoneChain.{DoneChain}
@@ -8,13 +9,15 @@ use Rattle.vm_link.specs.declared.link.Turn.TheVariants.{Did, Idle}
 use Rattle.vm_link.specs.declared.parcel.Finished.{Finished}
 use Rattle.vm_wire.specs.Message.{Request, Reply}
 use Rattle.vm_wire.specs.Message.Ask.{Judged}
-use Rattle.vm_wire.specs.declared.command.Command.{Command}
+use Rattle.vm_handle.specs.Handle.{HandleState}
+use Rattle.vm_handle.specs.declared.way.Way.{Way}
+use Rattle.vm_handle.specs.declared.way.Way.TheVariants.{Crosses, AnsweredHere, Waits, TouchesMemory, NotBuilt}
 use Rattle.vm_script.specs.Reading.{IsReadProcess}
 use Rattle.vm_script.specs.Script.{ProcessLines, ScriptLines}
 use Rattle.vm_guest.specs.declared.asked.Asked.{Asked}
 use Rattle.vm_guest.specs.declared.status.Status.TheVariants.{AtRest}
 use Rattle.vm_guest.specs.Chain.{reply_of}
-use Rattle.vm_guest.specs.Process.{ProcessState, next, is_done, can_issue, crossing, crosses_by, sent, answered_here, Issues, CanPost, IsReplyTo, IsAnswered, IsFresh}
+use Rattle.vm_guest.specs.Process.{ProcessState, next, is_done, can_issue, crossing, way_by, sent, answered_here, Issues, CanPost, IsReplyTo, IsAnswered, IsFresh}
 use Rattle.vm_guest.specs.Orderly.{IsOrderly}
 
 pub record GuestState : Type 0 where
@@ -33,6 +36,10 @@ process_at g n = process_in g.processes n
 
 abbrev pub with_process : GuestState → ℕ → ProcessState → GuestState
 with_process g n p = record g { processes = slice_set g.processes n p }
+
+-- the handle in a place of a process's, if there is one
+abbrev pub handle_named : GuestState → ℕ → ℕ → Option HandleState
+handle_named g n k = option_and_then (λ (p : ProcessState). slice_get p.handles k) (slice_get g.processes n)
 
 abbrev pub no_lines : ProcessLines
 no_lines = record { handles = []; lines = [] }
@@ -78,17 +85,21 @@ pub record Posting : Type 0 where
   pub guest : GuestState
   pub posts : List Request
 
--- what is asked is begun by the command by which it crosses, or answered here
-abbrev pub begins : GuestState → ℕ → Asked → Option Command → Posting
-begins g n a (Some c) = record {
+-- What is asked is begun in this way: its command is posted, or the driver answers it itself. No call that is built waits,
+-- and one that touches a memory's bytes is no call to begin.
+abbrev pub begins : GuestState → ℕ → Asked → Way → Option Posting
+begins g n a (Crosses c) = Some (record {
   guest = with_process g n (sent (process_at g n) a);
   posts = record { who = n; asks = Judged (Ok c) } ∷ [];
-}
-begins g n a None = record { guest = with_process g n (answered_here (process_at g n) a); posts = [] }
+})
+begins g n a AnsweredHere = Some (record { guest = with_process g n (answered_here (process_at g n) a); posts = [] })
+begins g n a Waits = None
+begins g n a TouchesMemory = None
+begins g n a NotBuilt = None
 
 abbrev pub begins_asked : GuestState → ℕ → Option Asked → Option Posting
 begins_asked g n None = None
-begins_asked g n (Some a) = Some (begins g n a (crosses_by (process_at g n) a))
+begins_asked g n (Some a) = begins g n a (way_by (process_at g n) a)
 
 -- a process begins its next statement; none where there is none to begin
 abbrev pub issued : GuestState → ℕ → Option Posting

@@ -1,5 +1,5 @@
 -- One process of the driver: its handles, how far its lines have come, and what a line's beginning and its answer do.
-use Rattle.std.specs.Prelude.{ℕ, ◌≡◌, ◌+◌, ◌<◌, ◌≤◌, Bool, true, false, ◌&&◌, ◌==◌, List, Option, Some, None, nat_lt, length, slice_index_or, slice_set, if◌then◌else◌}
+use Rattle.std.specs.Prelude.{ℕ, ◌≡◌, ◌+◌, ◌<◌, ◌≤◌, Bool, true, false, not, ◌&&◌, ◌==◌, List, Option, Some, None, nat_lt, length, slice_index_or, slice_set, if◌then◌else◌}
 use Rattle.v4l_const.specs.declared.model.Model.{Model}
 use Rattle.v4l_const.specs.declared.model.Model.TheVariants.{Capture}
 use Rattle.vm_local.specs.declared.reply.Reply.{Reply}
@@ -12,8 +12,10 @@ use Rattle.vm_link.specs.declared.parcel.Parcel.{Parcel}
 use Rattle.vm_wire.specs.Wire.{response_len, response_of}
 use Rattle.vm_wire.specs.declared.command.Command.{Command}
 use Rattle.vm_wire.specs.declared.response.Response.{Response}
-use Rattle.vm_handle.specs.Exchange.{answer_here}
-use Rattle.vm_handle.specs.Handle.{HandleState, fresh_handle, local_of, asks, IsAnswer, MayAnswer, with_line, with_sent, with_entry, with_reply}
+use Rattle.vm_handle.specs.Exchange.{answer_here, touches_memory}
+use Rattle.vm_handle.specs.Handle.{HandleState, fresh_handle, local_of, way_from, asks, IsAnswer, MayAnswer, with_line, with_sent, with_entry, with_reply}
+use Rattle.vm_handle.specs.declared.way.Way.{Way}
+use Rattle.vm_handle.specs.declared.way.Way.TheVariants.{Crosses, AnsweredHere, Waits, TouchesMemory, NotBuilt}
 use Rattle.vm_script.specs.Script.{ProcessLines}
 use Rattle.vm_script.specs.Lines.{lines_of}
 use Rattle.vm_guest.specs.declared.asked.Asked.{Asked}
@@ -60,9 +62,14 @@ crossing p = if is_at_rest p.status then None else current p
 abbrev pub is_done : ProcessState → Bool
 is_done p = is_at_rest p.status && (p.answered == length p.statements)
 
+-- a call that touches no memory's bytes is begun at once
+abbrev pub is_issued : Option Asked → Bool
+is_issued None = false
+is_issued (Some a) = not (touches_memory a.call)
+
 -- its next statement may be begun
 abbrev pub can_issue : ProcessState → Bool
-can_issue p = is_at_rest p.status && nat_lt p.answered (length p.statements)
+can_issue p = is_issued (next p)
 
 -- ---- its handles
 
@@ -75,6 +82,13 @@ handle_in handles h = slice_index_or handles h no_handle
 
 abbrev pub handle_at : ProcessState → ℕ → HandleState
 handle_at p h = handle_in p.handles h
+
+-- how what is asked of one of these handles is begun
+abbrev pub way_in : List HandleState → Asked → Way
+way_in handles a = way_from (handle_in handles a.handle) a.call
+
+abbrev pub way_by : ProcessState → Asked → Way
+way_by p a = way_in p.handles a
 
 -- the command by which what is asked of one of these handles crosses, if it does
 abbrev pub crosses_in : List HandleState → Asked → Option Command
@@ -113,17 +127,21 @@ sent p a = record p { handles = handles_sent p.handles a; status = Crossing }
 abbrev pub answered_here : ProcessState → Asked → ProcessState
 answered_here p a = record p { handles = handles_answered p.handles a; answered = p.answered + 1 }
 
--- What is asked is begun: what crosses is posted, in the process's chain, and what doesn't is answered.
-abbrev pub Begins : Option Command → Asked → ProcessState → Queues → ProcessState → Queues → Type 0
-Begins (Some c) a p queues p' queues' =
+-- What is asked is begun: what crosses is posted, in the process's chain, and what the driver answers itself is answered.
+-- No call that is built waits; one that touches a memory's bytes is no call to begin.
+abbrev pub Begins : Way → Asked → ProcessState → Queues → ProcessState → Queues → Type 0
+Begins (Crosses c) a p queues p' queues' =
     (parcel : Parcel) × Carries p.number c parcel × (p' ≡ sent p a)
     × (queues' ≡ with_queue Commands (posted (queue_at Commands queues) parcel) queues)
-Begins None a p queues p' queues' = (p' ≡ answered_here p a) × (queues' ≡ queues)
+Begins AnsweredHere a p queues p' queues' = (p' ≡ answered_here p a) × (queues' ≡ queues)
+Begins Waits a p queues p' queues' = ⊥
+Begins TouchesMemory a p queues p' queues' = ⊥
+Begins NotBuilt a p queues p' queues' = ⊥
 
 -- The next statement is begun, if there is one to begin.
 abbrev pub Issues : Option Asked → ProcessState → Queues → Turn → ProcessState → Queues → Type 0
 Issues None p queues turn p' queues' = (turn ≡ Idle) × (p' ≡ p) × (queues' ≡ queues)
-Issues (Some a) p queues turn p' queues' = (turn ≡ Did) × Begins (crosses_by p a) a p queues p' queues'
+Issues (Some a) p queues turn p' queues' = (turn ≡ Did) × Begins (way_by p a) a p queues p' queues'
 
 -- where the next statement crosses, four descriptors are free
 abbrev pub HasRoomFor : Option Command → Queue → Type 0

@@ -12,7 +12,7 @@ ghost use Rattle.vm_script.specs.Reading.{IsReadProcess};
 ghost use Rattle.vm_script.specs.Script.{ProcessLines};
 ghost use Rattle.vm_guest.specs.Chain.{IsChain, Carries, reply_bytes};
 ghost use Rattle.vm_guest.specs.Asking.{statements_of};
-ghost use Rattle.vm_guest.specs.Process.{no_handle, handle_in, next, crossing, can_issue, is_done, crosses_in, handles_sent, handles_answered, Issues, CanPost, IsReplyTo, IsAnswered, IsFresh, fresh_at};
+ghost use Rattle.vm_guest.specs.Process.{no_handle, handle_in, begun, next, crossing, is_issued, can_issue, is_done, way_in, crosses_in, handles_sent, handles_answered, Issues, CanPost, IsReplyTo, IsAnswered, IsFresh, fresh_at};
 ghost use Rattle.vm_guest.specs.Orderly.{IsOrderly};
 ghost use Rattle.vm_guest.specs.Caller.{counted, CanStart, Starts, CanReply, Logs};
 
@@ -22,7 +22,7 @@ use crate::status::Status;
 use std::alloc::Global;
 use std::marker::Model;
 use v4l_const::Model as DeviceModel;
-use vm_handle::{Handle, Started};
+use vm_handle::{Handle, Started, touches_memory};
 use vm_link::{Finished, Link, Parcel, QueueId, Turn};
 use vm_mem::Memory;
 use vm_script::{Line, LineKind, Process};
@@ -112,6 +112,16 @@ fn make_statements(alloc: Global, lines: &[Line]) -> Result<Vec<Statement>, Memo
     Ok(statements)
 }
 
+// Whether what is asked, if something is, touches no memory's bytes.
+fn is_issued(asked: Option<Asked>) -> bool
+    ensures { result ≡ is_issued asked }
+{
+    match asked {
+        Some(asked) => !touches_memory(&asked.call),
+        None => false,
+    }
+}
+
 // Begins a call on its handle. Where it crosses, its command stands at the front of the bytes.
 fn start_call(handle: &mut Handle, asked: &Asked, command: &mut [u8], chain: &mut Parcel) -> Started
     requires rests { handle.old.sent ≡ None }
@@ -139,7 +149,7 @@ fn log_reply(handle: &mut Handle, asked: &Asked, response: &Response, done: &mut
 fn start(handles: &mut Vec<Handle>, asked: &Asked, chain: &mut Parcel) -> bool
     requires can { CanStart handles.old.items asked.now }
     requires chain { (p : ℕ) × IsChain p chain.old }
-    ensures { Starts (crosses_in handles.old.items asked.now) asked.now handles.old.items chain.old result handles.new.items chain.new }
+    ensures { Starts (way_in handles.old.items asked.now) asked.now handles.old.items chain.old result handles.new.items chain.new }
 {
     let mut command = [0; COMMAND_ROOM];
     let handle = &mut handles[asked.handle as usize];
@@ -196,11 +206,11 @@ impl Caller {
         self.status == Status::AtRest && self.answered == self.statements.len()
     }
 
-    /// Whether the next statement may be begun.
+    /// Whether the next statement may be begun: there is one, none is on its way, and it touches no memory's bytes.
     pub fn can_issue(&self) -> bool
         ensures { result ≡ can_issue self.now }
     {
-        self.status == Status::AtRest && self.answered < self.statements.len()
+        self.status == Status::AtRest && is_issued(asked_at(&self.statements, self.answered))
     }
 
     /// Begins the next statement. `Idle` exactly where there is none, or one is on its way.
@@ -237,6 +247,25 @@ impl Caller {
         self.chain = Some(done.parcel);
         self.answered += 1;
         self.status = Status::AtRest;
+    }
+
+    /// How many of its statements are answered.
+    pub fn answered(&self) -> u32
+        requires { self.now.answered < 2 ^ 32 }
+        ensures { result ≡ self.now.answered }
+    {
+        self.answered as u32
+    }
+
+    /// How many of its statements were begun.
+    pub fn begun(&self) -> u32
+        requires { begun self.now < 2 ^ 32 }
+        ensures { result ≡ begun self.now }
+    {
+        match self.status {
+            Status::AtRest => self.answered as u32,
+            Status::Crossing => (self.answered + 1) as u32,
+        }
     }
 
     /// The handles, in the order of their names.

@@ -5,8 +5,8 @@ ghost use Rattle.std.specs.Option.{option_map};
 ghost use Rattle.vm_link.specs.Queue.{queue_at, with_queue, collected};
 ghost use Rattle.vm_link.specs.declared.link.QueueId.TheVariants.{Command as Commands};
 ghost use Rattle.vm_script.specs.Script.{ScriptLines};
-ghost use Rattle.vm_guest.specs.Process.{next, CanPost, is_done, can_issue};
-ghost use Rattle.vm_guest.specs.Guest.{process_at, IsDone, IsReadScript, IsDriver, IsFreshGuest, IssuesAt, Collects, IsReply, may_issue, process_in};
+ghost use Rattle.vm_guest.specs.Process.{begun, next, CanPost, is_done, can_issue};
+ghost use Rattle.vm_guest.specs.Guest.{process_at, IsDone, IsReadScript, IsDriver, IsFreshGuest, IssuesAt, Collects, IsReply, may_issue, process_in, handle_named};
 
 use crate::caller::Caller;
 use std::alloc::Global;
@@ -64,6 +64,13 @@ fn caller_at(callers: &[Caller], at: usize) -> Option<&Caller>
     ensures { option_map (λ c. c.now) result ≡ slice_get callers.now at }
 {
     callers.get(at)
+}
+
+// The handle at a place.
+fn handle_in(handles: &[Handle], at: usize) -> Option<&Handle>
+    ensures { option_map (λ h. h.now) result ≡ slice_get handles.now at }
+{
+    handles.get(at)
 }
 
 impl Guest {
@@ -136,6 +143,36 @@ impl Guest {
         let caller = &mut self.callers[poster(&done)];
         caller.answer(done);
         Turn::Did
+    }
+
+    /// How many statements of a process were begun; 0 where there is no such process.
+    pub fn begun(&self, p: u32) -> u32
+        ensures { result ≡ begun (process_at self.now p) }
+    {
+        match caller_at(&self.callers, p as usize) {
+            Some(caller) => caller.begun(),
+            None => 0,
+        }
+    }
+
+    /// How many statements of a process are answered; 0 where there is no such process.
+    pub fn answered(&self, p: u32) -> u32
+        ensures { result ≡ (process_at self.now p).answered }
+    {
+        match caller_at(&self.callers, p as usize) {
+            Some(caller) => caller.answered(),
+            None => 0,
+        }
+    }
+
+    /// The handle in place `k` of a process's, in the order of their `open` lines. `None` exactly where there is none.
+    pub fn handle(&self, p: u32, k: u32) -> Option<&Handle>
+        ensures { option_map (λ h. h.now) result ≡ handle_named self.now p k }
+    {
+        match caller_at(&self.callers, p as usize) {
+            Some(caller) => handle_in(caller.handles(), k as usize),
+            None => None,
+        }
     }
 
     /// The handles of a process, in the order of their `open` lines. `None` exactly where there is no such process.
