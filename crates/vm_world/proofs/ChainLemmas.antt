@@ -147,7 +147,7 @@ served_posted p c parcel host sent host' fits carries serves =
 pub record IsBrought (p head : ℕ) (response : Response) (sent : Sent) : Type 0 where
   pub chain : IsChain p sent.parcel
   pub reply : reply_of (record { head = head; used = sent.used; parcel = sent.parcel }) ≡ record { who = p; bytes = response_bytes response }
-  pub fits : sent.used ≤ 4096
+  pub fits : sent.used ≤ 304
 
 -- the response stands at the front of the second page
 pub brought : (p : ℕ) (c : Command) (parcel : Parcel) (sent : Sent) (response : Response) (head : ℕ) → IsCommand c → MayReply c response → Carries p c parcel

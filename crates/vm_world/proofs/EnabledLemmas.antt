@@ -1,5 +1,5 @@
 -- Lemmas on the steps that may come next.
-use Rattle.std.proofs.Common.{◌≡◌, ℕ, zero, suc, ◌+◌, ◌-◌, ◌<◌, ◌≤◌, ◌==◌, ◌&&◌, Bool, true, false, List, [], ◌∷◌, ◌++◌, Option, Some, None, length, drop, get_or, slice_get, refl, sym, ap, ◌∙◌, subst, arith, nat_lt, eq-eqb, if◌then◌else◌}
+use Rattle.std.proofs.Common.{◌≡◌, ℕ, zero, suc, ◌+◌, ◌-◌, ◌<◌, ◌≤◌, ◌==◌, ◌&&◌, Bool, true, false, List, [], ◌∷◌, ◌++◌, Option, Some, None, is_some, length, drop, get_or, slice_get, refl, sym, ap, ◌∙◌, subst, arith, nat_lt, eq-eqb, if◌then◌else◌}
 use Rattle.std.specs.Prelude.{sum_by, All, IsTrue, IfSome, ◌↔◌}
 use Rattle.std.proofs.Math.Seq.{drop-length}
 use Rattle.std.proofs.lemmas.Bool.{lt-ltb, ltb-false}
@@ -12,12 +12,13 @@ use Rattle.vm_script.specs.Script.{ProcessLines, ScriptLines}
 use Rattle.vm_guest.specs.declared.status.Status.{Status}
 use Rattle.vm_guest.specs.declared.status.Status.TheVariants.{AtRest, Crossing}
 use Rattle.vm_guest.specs.Asking.{statement_of}
-use Rattle.vm_guest.specs.Process.{ProcessState, is_at_rest, begun, is_done, can_issue}
+use Rattle.vm_guest.specs.Process.{ProcessState, is_at_rest, begun, current, next, is_done, can_issue}
 use Rattle.vm_guest.specs.Guest.{GuestState, no_process, process_in, process_at, lines_at}
 use Rattle.vm_guest.specs.Orderly.{IsOrderly}
 use Rattle.vm_guest.proofs.OrderlyLemmas.{begun_at_rest}
+use Rattle.vm_world.proofs.TurnLemmas.{current_some, next_may}
 use Rattle.vm_world.specs.World.{WorldState, IsDone, issues_from, is_some_of, listed, enabled, is_enabled}
-use Rattle.vm_world.specs.Sound.{crossing_count, IsSound}
+use Rattle.vm_world.specs.Sound.{crossing_count, IsSoundOf}
 use Rattle.vm_world.specs.declared.step.Step.{Step}
 use Rattle.vm_world.specs.declared.step.Step.TheVariants.{Issue, Execute, Collect}
 
@@ -140,14 +141,16 @@ rests_where p none = known p.status refl
 -- a process at rest that may begin no line is done
 done_where_rests : (m : Model) (lines : ProcessLines) (p : ProcessState) → IsOrderly m lines p → p.status ≡ AtRest → can_issue p ≡ false → is_done p ≡ true
 done_where_rests m lines p orderly rests stuck =
-    let stuck' : nat_lt p.answered (length p.statements) ≡ false = sym (ap (λ s. is_at_rest s && nat_lt p.answered (length p.statements)) rests) ∙ stuck in
+    let is_next : next p ≡ current p = ap (λ s. if is_at_rest s then current p else None) rests in
+    let stuck' : nat_lt p.answered (length p.statements) ≡ false =
+    sym (current_some m lines p orderly) ∙ ap is_some (sym is_next) ∙ next_may m lines p orderly ∙ stuck in
     let past : length p.statements ≤ p.answered = ltb-false p.answered (length p.statements) stuck' in
     let all : length p.statements ≡ length lines.lines = ap length orderly.statements ∙ length-map lines.lines statement_of in
     let within : begun p ≤ length lines.lines = orderly.within in
     let same : p.answered ≡ length p.statements = omega (arith, past, all, within, begun_at_rest p rests) in
     ap (λ s. is_at_rest s && (p.answered == length p.statements)) rests ∙ eq-eqb p.answered (length p.statements) same
 
-pub done_where_none : (script : ScriptLines) (w : WorldState) → IsSound script w → length (enabled w) ≡ 0 → IsDone w
+pub done_where_none : (script : ScriptLines) (w : WorldState) → IsSoundOf script w → length (enabled w) ≡ 0 → IsDone w
 done_where_none script w sound none = All-from_get_or (λ p. is_done p ≡ true) w.guest.processes no_process done
   where
     none_of : (length (issues_from 0 w.guest.processes) ≡ 0) × ((length (listed (is_some_of w.requests) Execute) ≡ 0) × (length (listed (is_some_of w.replies) Collect) ≡ 0))
@@ -167,7 +170,7 @@ done_where_none script w sound none = All-from_get_or (λ p. is_done p ≡ true)
         (rests_where (process_at w.guest n) (none_crosses w.guest.processes n none_out within)) (none_may 0 w.guest.processes n none_of.0 within)
 
 -- where not all is done, a step may come next
-pub some_where_not_done : (script : ScriptLines) (w : WorldState) (b : Bool) → IsSound script w → (IsTrue b ↔ IsDone w) → b ≡ false → 0 < length (enabled w)
+pub some_where_not_done : (script : ScriptLines) (w : WorldState) (b : Bool) → IsSoundOf script w → (IsTrue b ↔ IsDone w) → b ≡ false → 0 < length (enabled w)
 some_where_not_done script w b sound done not_done = by_length (length (enabled w)) refl
   where
     by_length : (n : ℕ) → length (enabled w) ≡ n → 0 < length (enabled w)
@@ -199,7 +202,7 @@ answer_may w k (Some s) is = may_come w k s (sym is)
 
 -- ---- of the world's view
 
-pub more_seen : (script : ScriptLines) (v w : WorldState) (b : Bool) → v ≡ w → IsSound script v → (IsTrue b ↔ IsDone v) → b ≡ false → 0 < length (enabled w)
+pub more_seen : (script : ScriptLines) (v w : WorldState) (b : Bool) → v ≡ w → IsSoundOf script v → (IsTrue b ↔ IsDone v) → b ≡ false → 0 < length (enabled w)
 more_seen script v w b same sound done not_done =
     let P : WorldState → Type 0 = λ x. 0 < length (enabled x) in subst P same (some_where_not_done script v b sound done not_done)
 

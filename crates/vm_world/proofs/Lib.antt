@@ -13,3 +13,4 @@ pub mod TurnLemmas
 pub mod OpeningLemmas
 pub mod EnabledLemmas
 pub mod LawLemmas
+pub mod GrowLemmas

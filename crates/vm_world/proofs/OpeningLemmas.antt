@@ -1,5 +1,5 @@
 -- Lemmas on the world before the first line of a script.
-use Rattle.std.proofs.Common.{◌≡◌, ℕ, zero, suc, ◌+◌, ◌*◌, ◌<◌, ◌≤◌, ◌^◌, true, false, List, [], ◌∷◌, ◌++◌, Option, Some, None, length, map, take, get_or, refl, sym, ap, ◌∙◌, subst, arith, inl, inr, if◌then◌else◌, is_some}
+use Rattle.std.proofs.Common.{◌≡◌, ℕ, zero, suc, ◌+◌, ◌*◌, ◌<◌, ◌≤◌, ◌^◌, true, false, List, [], ◌∷◌, ◌++◌, Option, Some, None, Ok, length, map, take, get_or, refl, sym, ap, ◌∙◌, subst, arith, inl, inr, if◌then◌else◌, is_some}
 use Rattle.std.specs.Prelude.{sum_by, All}
 use Rattle.std.proofs.lemmas.Bool.{cases_lt}
 use Rattle.std.proofs.lemmas.List.{take_more, length-map, get_or-map, get_or_past}
@@ -13,6 +13,8 @@ use Rattle.vm_host.specs.Host.{fresh_host}
 use Rattle.vm_host.specs.Part.{request_of}
 use Rattle.vm_host.specs.Sessions.{HostState}
 use Rattle.vm_script.specs.Reading.{IsReadProcess, opens, opens_in}
+use Rattle.vm_script.specs.Grammar.{script_of}
+use Rattle.vm_script.proofs.ScriptLemmas.{read_process}
 use Rattle.vm_script.specs.Script.{ProcessLines, ScriptLines}
 use Rattle.vm_script.specs.declared.line.Line.{Line}
 use Rattle.vm_script.specs.declared.line.LineKind.{LineKind}
@@ -26,7 +28,7 @@ use Rattle.vm_guest.specs.Guest.{GuestState, no_process, process_in, process_at,
 use Rattle.vm_guest.proofs.OrderlyLemmas.{crossing_at_rest}
 use Rattle.vm_world.specs.World.{WorldState, handle_count}
 use Rattle.vm_world.specs.Carried.{command_room, IsEmpty, world_of, CarriesCommand, IsBack, IsCarried}
-use Rattle.vm_world.specs.Sound.{Seat, seat_of, no_seat, seat_at, IsSeated, SeatedBy, Agrees, IsQuiet, Ahead, stage_on, crossing_count, session_count, IsSoundProcess, IsSound}
+use Rattle.vm_world.specs.Sound.{Seat, seat_of, no_seat, seat_at, IsSeated, SeatedBy, Agrees, IsOffTheLink, Ahead, stage_on, crossing_count, session_count, IsSoundProcess, IsSoundOf}
 
 -- ---- how many handles a script has
 
@@ -146,13 +148,13 @@ rests m n lines p fresh = crossing_at_rest p fresh.status
 
 sound_process : (m : Model) (n : ℕ) (lines : ProcessLines) (p : ProcessState) → IsFresh m n lines p → IsSoundProcess p (map seat_of p.handles) [] []
 sound_process m n lines p fresh = record {
-  quiet = (let P : Option Asked → Type 0 = λ o. IsQuiet o [] [] in subst P (sym (rests m n lines p fresh)) (refl, refl));
+  quiet = (let P : Option Asked → Type 0 = λ o. IsOffTheLink o [] [] in subst P (sym (rests m n lines p fresh)) (refl, refl));
   named = length-map p.handles seat_of;
   ahead = λ h within. (let P : Option Asked → Type 0 = λ o. Ahead (handle_at p h) (stage_on h o [] []) (get_or (map seat_of p.handles) h no_seat) in
       subst P (sym (rests m n lines p fresh)) (ap (λ x. x.sent) (fresh.fresh h within), get_or-map seat_of p.handles h no_handle no_seat within));
 }
 
-pub sound_opening : (script : ScriptLines) (g : GuestState) → IsReadScript script → IsDriver script g → IsFreshGuest script g → IsSound script (opening_world script g)
+pub sound_opening : (script : ScriptLines) (g : GuestState) → IsReadScript script → IsDriver script g → IsFreshGuest script g → IsSoundOf script (opening_world script g)
 sound_opening script g read driver fresh = record {
   driver = driver;
   seats = seats_of g;
@@ -179,12 +181,12 @@ sound_opening script g read driver fresh = record {
 
 pub opening_carried : (script : ScriptLines) (g : GuestState) (host : HostState) (q : Queue) (count : ℕ) → IsReadScript script → IsDriver script g → IsFreshGuest script g
     → count ≡ handle_count script → host ≡ fresh_host script.model count → command_room ≤ q.size → IsEmpty q
-    → IsSound script (world_of script g host q) × IsCarried q
+    → IsSoundOf script (world_of script g host q) × IsCarried q
 opening_carried script g host q count read driver fresh counted is room empty =
     let same : world_of script g host q ≡ opening_world script g =
     ap (λ h. world_of script g h q) (is ∙ ap (fresh_host script.model) counted) ∙ ap (λ ps. record (opening_world script g) { requests = map request_of ps; replies = map (λ d. reply_of d.finished) q.done }) empty.0
     ∙ ap (λ ds. record (opening_world script g) { replies = map (λ d. reply_of d.finished) ds }) empty.2 in (
-      subst (IsSound script) (sym same) (sound_opening script g read driver fresh),
+      subst (IsSoundOf script) (sym same) (sound_opening script g read driver fresh),
       record {
         waiting = subst (All CarriesCommand) (sym empty.0) (All-nil CarriesCommand);
         out = empty.1;
@@ -193,3 +195,20 @@ opening_carried script g host q count read driver fresh counted is room empty =
         size = room;
       },
     )
+
+-- ---- scripts of several processes
+
+both : {A : Type 0} (P : A → Type 0) (x y : A) → P x → P y → All P (x ∷ y ∷ [])
+both P x y here there zero d within = here
+both P x y here there (suc zero) d within = there
+both P x y here there (suc (suc i)) d within = absurd (omega (arith, within))
+
+-- the processes of two scripts that were read
+pub read_two : (bytes bytes' : List ℕ) (s t u : ScriptLines) → script_of bytes ≡ Ok s → script_of bytes' ≡ Ok t → u.processes ≡ s.processes ++ t.processes → IsReadScript u
+read_two bytes bytes' s t u reads reads' are =
+    let one = read_process bytes s reads in
+    let two = read_process bytes' t reads' in
+    let whole : u.processes ≡ one.0 ∷ two.0 ∷ [] = are ∙ ap (λ (x : ScriptLines). x.processes ++ t.processes) one.1 ∙ ap (λ (x : ScriptLines). one.0 ∷ x.processes) two.1 in
+    let P : List ProcessLines → Type 0 = λ ps. (length ps ≤ process_limit) × All IsReadProcess ps in
+    let read = subst P (sym whole) (omega arith, both IsReadProcess one.0 two.0 one.2 two.2) in
+    record { few = read.0; each = read.1 }

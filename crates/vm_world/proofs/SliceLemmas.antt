@@ -16,15 +16,15 @@ use Rattle.vm_wire.specs.Wire.{response_bytes, response_of, Answers as MayReply}
 use Rattle.vm_wire.specs.declared.command.Command.{Command}
 use Rattle.vm_wire.specs.declared.response.Response.{Response}
 use Rattle.vm_handle.specs.Exchange.{way_of, answer_here}
-use Rattle.vm_handle.specs.Handle.{HandleState, local_of, asks, IsAnswer, with_line, with_sent, with_entry, with_reply}
+use Rattle.vm_handle.specs.Handle.{HandleState, local_of, way_from, asks, IsAnswer, with_line, with_sent, with_entry, with_reply}
 use Rattle.vm_handle.specs.declared.sent.Sent.{Sent}
 use Rattle.vm_handle.specs.declared.way.Way.TheVariants.{AnsweredHere}
 use Rattle.vm_handle.proofs.LogLemmas.{pushed, closed_refuses}
 use Rattle.vm_script.specs.Reading.{IsBuilt}
 use Rattle.vm_guest.specs.declared.asked.Asked.{Asked}
-use Rattle.vm_guest.specs.Process.{ProcessState, current, next, crossing, no_handle, handle_in, handle_at, crosses_by, with_handle, with_answer, sent, answered_here, replied}
-use Rattle.vm_guest.proofs.OrderlyLemmas.{next_is, crossing_is, crossing_at_rest, here_is}
-use Rattle.vm_world.specs.Sound.{Seat, no_seat, seat_of, Stage, IsOut, IsAsking, IsTold, Ahead, stage_from, stage_on, IsQuiet, IsResting, IsSoundProcess}
+use Rattle.vm_guest.specs.Process.{ProcessState, current, next, crossing, no_handle, handle_in, handle_at, way_by, crosses_by, with_handle, with_answer, sent, answered_here, replied}
+use Rattle.vm_guest.proofs.OrderlyLemmas.{next_is, crossing_is, crossing_at_rest}
+use Rattle.vm_world.specs.Sound.{Seat, no_seat, seat_of, Stage, IsOut, IsAsking, IsTold, Ahead, stage_from, stage_on, IsOffTheLink, IsResting, IsSoundProcess}
 use Rattle.vm_world.specs.Sound.Stage.{Resting, Asking, Told}
 
 -- ---- a handle in its place, and the others
@@ -56,11 +56,11 @@ resting_is p row rs qs rests sound = record {
 }
 
 pub quiet_is : (p : ProcessState) (row : List Seat) (rs : List Request) (qs : List Reply) → crossing p ≡ None → IsSoundProcess p row rs qs → (rs ≡ []) × (qs ≡ [])
-quiet_is p row rs qs rests sound = let P : Option Asked → Type 0 = λ o. IsQuiet o rs qs in subst P rests sound.quiet
+quiet_is p row rs qs rests sound = let P : Option Asked → Type 0 = λ o. IsOffTheLink o rs qs in subst P rests sound.quiet
 
 pub sound_resting : (p : ProcessState) (row : List Seat) → crossing p ≡ None → IsResting p row → IsSoundProcess p row [] []
 sound_resting p row rests resting = record {
-  quiet = (let P : Option Asked → Type 0 = λ o. IsQuiet o [] [] in subst P (sym rests) (refl, refl));
+  quiet = (let P : Option Asked → Type 0 = λ o. IsOffTheLink o [] [] in subst P (sym rests) (refl, refl));
   named = resting.named;
   ahead = λ h inside. (let P : Option Asked → Type 0 = λ o. Ahead (handle_at p h) (stage_on h o [] []) (get_or row h no_seat) in subst P (sym rests) (resting.ahead h inside));
 }
@@ -68,25 +68,24 @@ sound_resting p row rests resting = record {
 -- ---- a statement is answered by the driver itself
 
 -- a handle that refuses a call since it isn't open keeps its seat
-pub seat_answered : (h : HandleState) (a : Asked) → IsLegal h.model h.entries → IsBuilt a.call → asks h a.call ≡ None → seat_of (with_answer h a) ≡ seat_of h
-seat_answered h a legal built none =
+pub seat_answered : (h : HandleState) (a : Asked) → IsLegal h.model h.entries → way_from h a.call ≡ AnsweredHere → seat_of (with_answer h a) ≡ seat_of h
+seat_answered h a legal here =
     let id : ℕ = unwrap_or h.session 0 in
-    let here : way_of id (local_of h) a.call ≡ AnsweredHere = here_is id (local_of h) a.call built none in
     let refuses = closed_refuses id (local_of h) a.line a.call here in
     let next : local_of (with_entry (with_line h) a.line a.call (Refused Ebadf)) ≡ local_of h =
     ap (λ o. unwrap_or o (opening h.model)) (pushed h.model h.entries (Called a.line a.call (Refused Ebadf)) (local_of h) legal refuses.0) in
     ap (λ r. seat_of (with_entry (with_line h) a.line a.call r)) refuses.1 ∙ ap (λ s. record { session = h.session; local = s }) next
 
 pub slices_answered : (p : ProcessState) (row : List Seat) (a : Asked) → next p ≡ Some a → a.handle < length p.handles → IsLegal (handle_at p a.handle).model (handle_at p a.handle).entries
-    → IsBuilt a.call → crosses_by p a ≡ None → IsResting p row → IsSoundProcess (answered_here p a) row [] []
-slices_answered p row a is within legal built none resting =
+    → way_by p a ≡ AnsweredHere → IsResting p row → IsSoundProcess (answered_here p a) row [] []
+slices_answered p row a is within legal here resting =
     let at = next_is p a is in
     let old = resting.ahead a.handle within in
     let P : ℕ → HandleState → Type 0 = λ h x. Ahead x Resting (get_or row h no_seat) in
     sound_resting (answered_here p a) row (crossing_at_rest (answered_here p a) at.0) (record {
       named = resting.named ∙ sym (length-set p.handles a.handle (with_answer (handle_at p a.handle) a));
       ahead = by_handle p.handles a (with_answer (handle_at p a.handle) a) P within
-          (old.0, old.1 ∙ sym (seat_answered (handle_at p a.handle) a legal built none)) (λ h inside differs. resting.ahead h inside);
+          (old.0, old.1 ∙ sym (seat_answered (handle_at p a.handle) a legal here)) (λ h inside differs. resting.ahead h inside);
     })
 
 -- ---- a statement crosses
@@ -101,7 +100,7 @@ slices_sent n p row a c is within crosses resting =
     let P : ℕ → HandleState → Type 0 = λ h x. Ahead x (stage_on h (Some a) (r ∷ []) []) (get_or row h no_seat) in
     let Q : Option Asked → Type 0 = λ o. (h : ℕ) → h < length (sent p a).handles → Ahead (handle_at (sent p a) h) (stage_on h o (r ∷ []) []) (get_or row h no_seat) in
     record {
-      quiet = (let R : Option Asked → Type 0 = λ o. IsQuiet o (r ∷ []) [] in subst R (sym goes) tt);
+      quiet = (let R : Option Asked → Type 0 = λ o. IsOffTheLink o (r ∷ []) [] in subst R (sym goes) tt);
       named = resting.named ∙ sym (length-set p.handles a.handle handle');
       ahead = subst Q (sym goes) (by_handle p.handles a handle' P within
           (let S : Stage → Type 0 = λ s. Ahead handle' s (get_or row a.handle no_seat) in
@@ -147,7 +146,7 @@ pub slices_executed : (p : ProcessState) (row : List Seat) (r : Request) (q : Re
     → a.handle < length p.handles → IsOut (handle_at p a.handle) s c → MayReply c response → q.bytes ≡ response_bytes response → IsAnswer (local_of (handle_at p a.handle)) s.line s.call response reply
     → seat ≡ seat_of (with_reply (handle_at p a.handle) s.line s.call reply response) → IsSoundProcess p row (r ∷ []) [] → IsSoundProcess p (set row a.handle seat) [] (q ∷ [])
 slices_executed p row r q a s c response reply seat is within out fits wrote legal ahead sound = record {
-  quiet = (let R : Option Asked → Type 0 = λ o. IsQuiet o [] (q ∷ []) in subst R (sym is) tt);
+  quiet = (let R : Option Asked → Type 0 = λ o. IsOffTheLink o [] (q ∷ []) in subst R (sym is) tt);
   named = length-set row a.handle seat ∙ sound.named;
   ahead = λ h inside. (let P : Option Asked → Type 0 = λ o. Ahead (handle_at p h) (stage_on h o [] (q ∷ [])) (get_or (set row a.handle seat) h no_seat) in
       subst P (sym is) (by_place h inside (cases_eq h a.handle)));

@@ -17,7 +17,7 @@ use Rattle.vm_link.specs.declared.parcel.Finished.{Finished}
 use Rattle.vm_link.specs.declared.parcel.Parcel.{Parcel}
 use Rattle.vm_wire.specs.Message.{Ask, Request, Reply}
 use Rattle.vm_wire.specs.Message.Ask.{Unusable, Judged}
-use Rattle.vm_wire.specs.Wire.{IsCommand, response_bytes, Answers as MayReply}
+use Rattle.vm_wire.specs.Wire.{IsCommand, command_bytes, response_bytes, Answers as MayReply}
 use Rattle.vm_wire.specs.declared.command.Command.{Command}
 use Rattle.vm_wire.specs.declared.command.Command.TheVariants.{OpenSession}
 use Rattle.vm_wire.specs.declared.command.CmdFault.{CmdFault}
@@ -26,15 +26,19 @@ use Rattle.vm_host.specs.Host.{Executes as HostExecutes, AsksToOpen, chain_in, a
 use Rattle.vm_host.specs.Part.{ask_by, request_of, executed, executed_ask, finishing}
 use Rattle.vm_script.specs.Script.{ScriptLines}
 use Rattle.vm_guest.specs.declared.asked.Asked.{Asked}
-use Rattle.vm_guest.specs.Chain.{IsChain, Carries, reply_of, reply_bytes}
-use Rattle.vm_guest.specs.Process.{ProcessState, next, crossing, handle_at, crosses_by, sent, answered_here, Begins, Issues, CanPost, HasRoomFor, RepliesTo, IsReplyTo}
+use Rattle.vm_guest.specs.Chain.{chain_table, IsChain, Carries, reply_of, reply_bytes}
+use Rattle.vm_guest.specs.Process.{ProcessState, next, crossing, handle_at, way_by, crosses_by, sent, answered_here, Begins, Issues, CanPost, HasRoomFor, RepliesTo, IsReplyTo}
 use Rattle.vm_guest.specs.Guest.{GuestState, process_at, with_process, IsDriver, begins, begins_asked, issued, IssuesAt, Collected, Collects as GuestCollects, IsReply}
+use Rattle.vm_handle.specs.Exchange.{crossing as crossing_by}
+use Rattle.vm_handle.specs.declared.way.Way.{Way}
+use Rattle.vm_handle.specs.declared.way.Way.TheVariants.{Crosses, AnsweredHere, Waits, TouchesMemory, NotBuilt}
 use Rattle.vm_guest.proofs.OrderlyLemmas.{next_is}
+use Rattle.vm_guest.proofs.GuestLemmas.{begun_as}
 use Rattle.vm_world.specs.World.{WorldState, Turns, Executes, Collects, after_posting, after_finishing}
 use Rattle.vm_world.specs.World.{is_enabled, turn_of}
 use Rattle.vm_world.specs.declared.step.Step.{Step}
 use Rattle.vm_world.specs.declared.step.Step.TheVariants.{Issue, Execute, Collect}
-use Rattle.vm_world.specs.Sound.{IsSound, requests_of, replies_of}
+use Rattle.vm_world.specs.Sound.{IsSoundOf, requests_of, replies_of}
 use Rattle.vm_world.specs.Carried.{world_of, CarriesCommand, IsBack, IsCarried}
 use Rattle.vm_world.proofs.ChainLemmas.{request_posted, served_posted, brought}
 use Rattle.vm_world.proofs.WorldLemmas.{begun_is, command_fits, reply_fits, room_to_open, sound_posting, sound_finishing, sound_collected, brought_to, IsBroughtTo, crossing_most, judged_same}
@@ -52,7 +56,7 @@ pub record IsStep (turn : Turn) (w : WorldState) (step : Step) (w' : WorldState)
   pub carried : IsCarried q'
 
 pub issue_step : (script : ScriptLines) (g : GuestState) (host : HostState) (queues queues' : Queues) (turn : Turn) (g' : GuestState) (n : ℕ)
-    → IsSound script (world_of script g host (queue_at Commands queues)) → IsCarried (queue_at Commands queues) → IssuesAt n g queues turn g' queues'
+    → IsSoundOf script (world_of script g host (queue_at Commands queues)) → IsCarried (queue_at Commands queues) → IssuesAt n g queues turn g' queues'
     → IsStep turn (world_of script g host (queue_at Commands queues)) (Issue n) (world_of script g' host (queue_at Commands queues')) (queue_at Commands queues')
 issue_step script g host queues queues' turn g' n sound carried does = by_next (next (process_at g n)) refl does.issues
   where
@@ -65,25 +69,25 @@ issue_step script g host queues queues' turn g' n sound carried does = by_next (
     p : ProcessState
     p = process_at g n
 
-    by_way : (a : Asked) (o : Option Command) → next p ≡ Some a → crosses_by p a ≡ o → turn ≡ Did → Begins o a p queues does.process queues'
+    by_way : (a : Asked) (way : Way) → next p ≡ Some a → way_by p a ≡ way → turn ≡ Did → Begins way a p queues does.process queues'
         → IsStep turn w (Issue n) (world_of script g' host (queue_at Commands queues')) (queue_at Commands queues')
-    by_way a None is crosses did begun =
+    by_way a AnsweredHere is goes did begun =
         let same : queue_at Commands queues' ≡ q = ap (queue_at Commands) begun.1 in
         let after : g' ≡ with_process g n (answered_here p a) = does.after ∙ ap (with_process g n) begun.0 in
-        let gives : issued g n ≡ Some (begins g n a None) = ap (begins_asked g n) is ∙ ap (λ o. Some (begins g n a o)) crosses in
+        let gives : issued g n ≡ Some (begun_as g n a None) = ap (begins_asked g n) is ∙ ap (begins g n a) goes in
         let T : Turn → Type 0 = λ t. IsStep t w (Issue n) (world_of script g' host (queue_at Commands queues')) (queue_at Commands queues') in
         let Q : Queue → Type 0 = λ x. IsStep Did w (Issue n) (world_of script g' host x) x in
         let G : GuestState → Type 0 = λ x. IsStep Did w (Issue n) (world_of script x host q) q in
         subst T (sym did) (subst Q (sym same) (subst G (sym after) (record {
-          turns = (begins g n a None, gives, ap (λ rs. record w { guest = with_process g n (answered_here p a); requests = rs }) (sym (append-nil w.requests)));
+          turns = (begun_as g n a None, gives, ap (λ rs. record w { guest = with_process g n (answered_here p a); requests = rs }) (sym (append-nil w.requests)));
           carried = carried;
         })))
-    by_way a (Some c) is crosses did begun =
+    by_way a (Crosses c) is goes did begun =
         let parcel : Parcel = begun.0 in
         let same : queue_at Commands queues' ≡ posted q parcel = ap (queue_at Commands) begun.3 in
         let after : g' ≡ with_process g n (sent p a) = does.after ∙ ap (with_process g n) begun.2 in
-        let gives : issued g n ≡ Some (begins g n a (Some c)) = ap (begins_asked g n) is ∙ ap (λ o. Some (begins g n a o)) crosses in
-        let fits = command_fits script w n a c sound is crosses in
+        let gives : issued g n ≡ Some (begun_as g n a (Some c)) = ap (begins_asked g n) is ∙ ap (begins g n a) goes in
+        let fits = command_fits script w n a c sound is (ap crossing_by goes) in
         let number : p.number ≡ n = sound.driver.numbered n fits.0 in
         let carries : Carries n c parcel = subst (λ k. Carries k c parcel) number begun.1 in
         let says = request_posted n c parcel fits.1 carries in
@@ -92,7 +96,7 @@ issue_step script g host queues queues' turn g' n sound carried does = by_next (
         let Q : Queue → Type 0 = λ x. IsStep Did w (Issue n) (world_of script g' host x) x in
         let G : GuestState → Type 0 = λ x. IsStep Did w (Issue n) (world_of script x host (posted q parcel)) (posted q parcel) in
         subst T (sym did) (subst Q (sym same) (subst G (sym after) (record {
-          turns = (begins g n a (Some c), gives, ap (λ rs. record w { guest = with_process g n (sent p a); requests = rs }) (map_push request_of q.waiting parcel ∙ ap (λ r. map request_of q.waiting ++ r ∷ []) says));
+          turns = (begun_as g n a (Some c), gives, ap (λ rs. record w { guest = with_process g n (sent p a); requests = rs }) (map_push request_of q.waiting parcel ∙ ap (λ r. map request_of q.waiting ++ r ∷ []) says));
           carried = record {
             waiting = All-push CarriesCommand q.waiting parcel carried.waiting (c, fits.1, subst (λ k. Carries k c parcel) (sym who) carries);
             out = carried.out;
@@ -101,6 +105,9 @@ issue_step script g host queues queues' turn g' n sound carried does = by_next (
             size = carried.size;
           };
         })))
+    by_way a Waits is goes did begun = absurd begun
+    by_way a TouchesMemory is goes did begun = absurd begun
+    by_way a NotBuilt is goes did begun = absurd begun
 
     by_next : (o : Option Asked) → next p ≡ o → Issues o p queues turn does.process queues' → IsStep turn w (Issue n) (world_of script g' host (queue_at Commands queues')) (queue_at Commands queues')
     by_next None is issues =
@@ -110,11 +117,11 @@ issue_step script g host queues queues' turn g' n sound carried does = by_next (
         let Q : Queue → Type 0 = λ x. IsStep Idle w (Issue n) (world_of script g' host x) x in
         let G : GuestState → Type 0 = λ x. IsStep Idle w (Issue n) (world_of script x host q) q in
         subst T (sym issues.0) (subst Q (sym same) (subst G (sym after) (record { turns = refl; carried = carried })))
-    by_next (Some a) is issues = by_way a (crosses_by p a) is refl issues.0 issues.1
+    by_next (Some a) is issues = by_way a (way_by p a) is refl issues.0 issues.1
 
 -- ---- the device does a request
 
-pub execute_step : (script : ScriptLines) (g : GuestState) (host : HostState) (q q' : Queue) (turn : Turn) (host' : HostState) → IsSound script (world_of script g host q) → IsCarried q
+pub execute_step : (script : ScriptLines) (g : GuestState) (host : HostState) (q q' : Queue) (turn : Turn) (host' : HostState) → IsSoundOf script (world_of script g host q) → IsCarried q
     → HostExecutes q.waiting host q turn host' q' → IsStep turn (world_of script g host q) Execute (world_of script g host' q') q'
 execute_step script g host q q' turn host' sound carried does = by_waiting q.waiting refl does
   where
@@ -159,7 +166,15 @@ execute_step script g host q q' turn host' sound carried does = by_waiting q.wai
           carried = record {
             waiting = All-tail CarriesCommand parcel ps here;
             out = carried.out;
-            done = All-push IsBack q.done d carried.done (subst (λ k. IsChain k sent_back.parcel) (sym (ap (λ (x : Parcel). x.who) back.chain.is)) back.chain, back.fits);
+            done = All-push IsBack q.done d carried.done (record {
+              chain = subst (λ k. IsChain k sent_back.parcel) (sym (ap (λ (x : Parcel). x.who) back.chain.is)) back.chain;
+              command = c;
+              fits = fits;
+              table = (let who : sent_back.parcel.who ≡ parcel.who = ap (λ (x : Sent). x.parcel.who) served.sent_is in
+                  let posted_as : sent_back.parcel.table ≡ chain_table parcel.who (length (command_bytes c)) = ap (λ (x : Sent). x.parcel.table) served.sent_is ∙ ap (λ (x : Parcel). x.table) carries.is in
+                  subst (λ k. sent_back.parcel.table ≡ chain_table k (length (command_bytes c))) (sym who) posted_as);
+              within = back.fits;
+            });
             lengths = All-push (λ (x : DoneChain). x.count ≡ 2) q.done d carried.lengths two;
             size = carried.size;
           };
@@ -222,7 +237,7 @@ counts (d ∷ ds) all =
     omega (arith, rest, here, step, more)
 
 -- four descriptors are always free
-pub room_left : (script : ScriptLines) (g : GuestState) (host : HostState) (q : Queue) → IsSound script (world_of script g host q) → IsCarried q → 4 ≤ free_count q
+pub room_left : (script : ScriptLines) (g : GuestState) (host : HostState) (q : Queue) → IsSoundOf script (world_of script g host q) → IsCarried q → 4 ≤ free_count q
 room_left script g host q sound carried =
     let most = crossing_most g.processes in
     let first = tables q.waiting carried.waiting in
@@ -232,7 +247,7 @@ room_left script g host q sound carried =
     let told = length-map q.done (λ (x : DoneChain). reply_of x.finished) in
     omega (arith, most, first, last, none, asking, told, sound.count, sound.driver.few, carried.size)
 
-pub may_post : (script : ScriptLines) (g : GuestState) (host : HostState) (q : Queue) (n : ℕ) → IsSound script (world_of script g host q) → IsCarried q → CanPost (next (process_at g n)) (process_at g n) q
+pub may_post : (script : ScriptLines) (g : GuestState) (host : HostState) (q : Queue) (n : ℕ) → IsSoundOf script (world_of script g host q) → IsCarried q → CanPost (next (process_at g n)) (process_at g n) q
 may_post script g host q n sound carried = by_next (next (process_at g n))
   where
     by_way : (o : Option Command) → HasRoomFor o q
@@ -250,7 +265,7 @@ ok_descs r descs parcel c is says opens = by_room (nat_lt (writable_bytes descs)
     by_room true same = cc
     by_room false same = sym (judged_same _ _ (sym (ap Judged opens) ∙ same))
 
-pub may_execute : (script : ScriptLines) (g : GuestState) (host : HostState) (q : Queue) → IsSound script (world_of script g host q) → IsCarried q → AsksToOpen q.waiting → length host.sessions < host.opens
+pub may_execute : (script : ScriptLines) (g : GuestState) (host : HostState) (q : Queue) → IsSoundOf script (world_of script g host q) → IsCarried q → AsksToOpen q.waiting → length host.sessions < host.opens
 may_execute script g host q sound carried asks = by_waiting q.waiting refl asks
   where
     by_waiting : (ps : List Parcel) → q.waiting ≡ ps → AsksToOpen ps → length host.sessions < host.opens
@@ -261,7 +276,7 @@ may_execute script g host q sound carried asks = by_waiting q.waiting refl asks
         let c : own.0 ≡ OpenSession = ok_descs (chain_in parcel) asks.0 parcel own.0 asks.1 says asks.2 in
         room_to_open script (world_of script g host q) (request_of parcel) (map request_of ps) sound (ap (map request_of) is) (says ∙ ap (λ x. Judged (Ok x)) c)
 
-pub may_collect : (script : ScriptLines) (g : GuestState) (host : HostState) (q : Queue) → IsSound script (world_of script g host q) → IsCarried q → IsReply q.done g
+pub may_collect : (script : ScriptLines) (g : GuestState) (host : HostState) (q : Queue) → IsSoundOf script (world_of script g host q) → IsCarried q → IsReply q.done g
 may_collect script g host q sound carried = by_done q.done refl
   where
     by_done : (ds : List DoneChain) → q.done ≡ ds → IsReply ds g
@@ -275,8 +290,8 @@ may_collect script g host q sound carried = by_done q.done refl
         let S : Option Asked → Type 0 = λ o. IsReplyTo o (process_at g d.finished.parcel.who) d.finished in (
           to.within,
           subst S (sym to.on_its_way) (subst R (sym to.crossed) (record {
-            chain = subst (λ k. IsChain k d.finished.parcel) (sym number) back.0;
-            fits = back.1;
+            chain = subst (λ k. IsChain k d.finished.parcel) (sym number) back.chain;
+            fits = omega (arith, back.within);
             enough = to.enough;
             may = to.may;
           })),

@@ -1,5 +1,5 @@
 -- Lemmas on what a step of the world is: it keeps the world sound, comes exactly where it may, and leaves fewer steps.
-use Rattle.std.proofs.Common.{◌≡◌, ◌≢◌, ℕ, suc, ◌+◌, ◌-◌, ◌*◌, ◌<◌, ◌≤◌, Bool, true, false, List, [], ◌∷◌, ◌++◌, Option, Some, None, Ok, Err, is_some, length, get_or, set, slice_get, refl, sym, ap, ◌∙◌, subst, arith, inl, inr, nat_lt, ◌&&◌, if◌then◌else◌}
+use Rattle.std.proofs.Common.{◌≡◌, ◌≢◌, ℕ, suc, ◌+◌, ◌-◌, ◌*◌, ◌<◌, ◌≤◌, Bool, true, false, List, [], ◌∷◌, ◌++◌, Option, Some, None, Ok, Err, is_some, length, get_or, set, slice_get, refl, sym, ap, ◌∙◌, subst, arith, inl, inr, nat_lt, not, if◌then◌else◌}
 use Rattle.std.specs.Prelude.{sum_by}
 use Rattle.std.proofs.lemmas.Bool.{cases_lt}
 use Rattle.std.proofs.lemmas.Bool.Decides.{nat_tests}
@@ -24,40 +24,40 @@ use Rattle.vm_guest.specs.declared.asked.Statement.{Statement}
 use Rattle.vm_guest.specs.declared.status.Status.{Status}
 use Rattle.vm_guest.specs.declared.status.Status.TheVariants.{AtRest, Crossing}
 use Rattle.vm_guest.specs.Asking.{asked_by, asked_at, statements_of}
-use Rattle.vm_guest.specs.Process.{ProcessState, is_at_rest, begun, current, next, crossing, can_issue, crosses_by, sent, answered_here, replied, Issues}
+use Rattle.vm_guest.specs.Process.{ProcessState, is_at_rest, begun, current, next, crossing, is_issued, can_issue, crosses_by, sent, answered_here, replied, Issues}
 use Rattle.vm_guest.specs.Orderly.{IsOrderly}
-use Rattle.vm_guest.specs.Guest.{GuestState, no_process, process_at, with_process, lines_at, IsDriver, Posting, begins, issued, IssuesAt, Collected}
+use Rattle.vm_guest.specs.Guest.{GuestState, no_process, process_at, with_process, lines_at, IsDriver, Posting, issued, IssuesAt, Collected}
 use Rattle.vm_guest.proofs.LinesLemmas.{some_asked}
-use Rattle.vm_guest.proofs.OrderlyLemmas.{next_is, crossing_is, begun_at_rest, begun_crossing}
-use Rattle.vm_guest.proofs.GuestLemmas.{process_past}
+use Rattle.vm_guest.proofs.OrderlyLemmas.{next_is, crossing_is, begun_at_rest, begun_crossing, asks_read, built_untouched}
+use Rattle.vm_guest.proofs.GuestLemmas.{process_past, begun_as}
 use Rattle.vm_world.specs.World.{WorldState, Turns, Executes, Collects, after_posting, weight_of, request_weight, unbegun, left_of, turn_by}
 use Rattle.vm_world.specs.declared.step.Step.TheVariants.{Issue, Execute, Collect}
-use Rattle.vm_world.specs.Sound.{IsSound}
+use Rattle.vm_world.specs.Sound.{IsSoundOf}
 use Rattle.vm_world.proofs.WorldLemmas.{IsBegun, begun_is, sound_posting, sound_finishing, sound_collected}
 
 -- ---- a step keeps the world sound
 
-pub sound_issue : (script : ScriptLines) (w w' : WorldState) (n : ℕ) (turn : Turn) → IsSound script w → Turns turn w (Issue n) w' → IsDriver script w'.guest → IsSound script w'
+pub sound_issue : (script : ScriptLines) (w w' : WorldState) (n : ℕ) (turn : Turn) → IsSoundOf script w → Turns turn w (Issue n) w' → IsDriver script w'.guest → IsSoundOf script w'
 sound_issue script w w' n Did sound does driver =
-    subst (IsSound script) (sym does.2) (sound_posting script w n does.0 sound does.1 (subst (IsDriver script) (ap (λ x. x.guest) does.2) driver))
-sound_issue script w w' n Idle sound does driver = subst (IsSound script) (sym does) sound
+    subst (IsSoundOf script) (sym does.2) (sound_posting script w n does.0 sound does.1 (subst (IsDriver script) (ap (λ x. x.guest) does.2) driver))
+sound_issue script w w' n Idle sound does driver = subst (IsSoundOf script) (sym does) sound
 
-pub sound_execute : (script : ScriptLines) (w w' : WorldState) (turn : Turn) → IsSound script w → Turns turn w Execute w' → IsSound script w'
+pub sound_execute : (script : ScriptLines) (w w' : WorldState) (turn : Turn) → IsSoundOf script w → Turns turn w Execute w' → IsSoundOf script w'
 sound_execute script w w' Did sound does = by_requests w.requests refl does
   where
-    by_requests : (rs : List Request) → w.requests ≡ rs → Executes w rs w' → IsSound script w'
+    by_requests : (rs : List Request) → w.requests ≡ rs → Executes w rs w' → IsSoundOf script w'
     by_requests [] is does = absurd does
-    by_requests (r ∷ rs) is does = subst (IsSound script) (sym does.1) (sound_finishing script w r rs does.0 sound is)
-sound_execute script w w' Idle sound does = subst (IsSound script) (sym does) sound
+    by_requests (r ∷ rs) is does = subst (IsSoundOf script) (sym does.1) (sound_finishing script w r rs does.0 sound is)
+sound_execute script w w' Idle sound does = subst (IsSoundOf script) (sym does) sound
 
-pub sound_collect : (script : ScriptLines) (w w' : WorldState) (turn : Turn) → IsSound script w → Turns turn w Collect w' → IsDriver script w'.guest → IsSound script w'
+pub sound_collect : (script : ScriptLines) (w w' : WorldState) (turn : Turn) → IsSoundOf script w → Turns turn w Collect w' → IsDriver script w'.guest → IsSoundOf script w'
 sound_collect script w w' Did sound does driver = by_replies w.replies refl does
   where
-    by_replies : (qs : List Reply) → w.replies ≡ qs → Collects w qs w' → IsSound script w'
+    by_replies : (qs : List Reply) → w.replies ≡ qs → Collects w qs w' → IsSoundOf script w'
     by_replies [] is does = absurd does
     by_replies (q ∷ qs) is does =
-        subst (IsSound script) (sym does.2) (sound_collected script w q qs does.0 sound is does.1 (subst (IsDriver script) (ap (λ x. x.guest) does.2) driver))
-sound_collect script w w' Idle sound does driver = subst (IsSound script) (sym does) sound
+        subst (IsSoundOf script) (sym does.2) (sound_collected script w q qs does.0 sound is does.1 (subst (IsDriver script) (ap (λ x. x.guest) does.2) driver))
+sound_collect script w w' Idle sound does driver = subst (IsSoundOf script) (sym does) sound
 
 -- ---- a line is begun exactly where it may be
 
@@ -65,25 +65,27 @@ sound_collect script w w' Idle sound does driver = subst (IsSound script) (sym d
 past_none : (ss : List Statement) (k : ℕ) → length ss ≤ k → asked_at ss k ≡ None
 past_none ss k past = ap (λ o. option_and_then asked_by o) (slice_get_past ss k past)
 
-pub next_may : (m : Model) (lines : ProcessLines) (p : ProcessState) → IsOrderly m lines p → is_some (next p) ≡ can_issue p
-next_may m lines p orderly = by_status p.status
-  where
-    at_rest : is_some (current p) ≡ nat_lt p.answered (length p.statements)
-    at_rest = elim (cases_lt p.answered (length p.statements)) [
-      | inl within ↦
-          let count : length p.statements ≡ length lines.lines = ap length orderly.statements ∙ length-map lines.lines _ in
-          let some = some_asked lines p.answered orderly.read (omega (arith, within, count)) in
-          let is : current p ≡ Some some.0 = ap (λ ss. asked_at ss p.answered) orderly.statements ∙ some.1 in
-          let yes : nat_lt p.answered (length p.statements) ≡ true = grind (arith, nat_tests) in
-          ap is_some is ∙ sym yes
-      | inr past ↦
-          let no : nat_lt p.answered (length p.statements) ≡ false = grind (arith, nat_tests) in
-          ap is_some (past_none p.statements p.answered (omega (arith, past))) ∙ sym no
-    ]
+-- each statement of an orderly process asks something
+pub current_some : (m : Model) (lines : ProcessLines) (p : ProcessState) → IsOrderly m lines p → is_some (current p) ≡ nat_lt p.answered (length p.statements)
+current_some m lines p orderly = elim (cases_lt p.answered (length p.statements)) [
+  | inl within ↦
+      let count : length p.statements ≡ length lines.lines = ap length orderly.statements ∙ length-map lines.lines _ in
+      let some = some_asked lines p.answered orderly.read (omega (arith, within, count)) in
+      let is : current p ≡ Some some.0 = ap (λ ss. asked_at ss p.answered) orderly.statements ∙ some.1 in
+      let yes : nat_lt p.answered (length p.statements) ≡ true = grind (arith, nat_tests) in
+      ap is_some is ∙ sym yes
+  | inr past ↦
+      let no : nat_lt p.answered (length p.statements) ≡ false = grind (arith, nat_tests) in
+      ap is_some (past_none p.statements p.answered (omega (arith, past))) ∙ sym no
+]
 
-    by_status : (s : Status) → is_some (if is_at_rest s then current p else None) ≡ (is_at_rest s && nat_lt p.answered (length p.statements))
-    by_status AtRest = at_rest
-    by_status Crossing = refl
+-- and none of them touches a memory's bytes
+pub next_may : (m : Model) (lines : ProcessLines) (p : ProcessState) → IsOrderly m lines p → is_some (next p) ≡ can_issue p
+next_may m lines p orderly = by_next (next p) refl
+  where
+    by_next : (o : Option Asked) → next p ≡ o → is_some o ≡ is_issued o
+    by_next None is = refl
+    by_next (Some a) is = sym (ap not (built_untouched a.call (asks_read m lines p a orderly (next_is p a is).1).2))
 
 turn_next : (o : Option Asked) (p p' : ProcessState) (queues queues' : Queues) (turn : Turn) → Issues o p queues turn p' queues' → turn ≡ turn_by (is_some o)
 turn_next None p p' queues queues' turn issues = issues.0
@@ -117,7 +119,7 @@ asked_within ss k a asks = by_get (slice_get ss k) refl asks
     by_get None is asks = cc
     by_get (Some s) is asks = slice_get_within ss k s is
 
-pub falls_issue : (script : ScriptLines) (w w' : WorldState) (n : ℕ) → IsSound script w → Turns Did w (Issue n) w' → left_of w' < left_of w
+pub falls_issue : (script : ScriptLines) (w w' : WorldState) (n : ℕ) → IsSoundOf script w → Turns Did w (Issue n) w' → left_of w' < left_of w
 falls_issue script w w' n sound does = subst (λ x. left_of x < left_of w) (sym does.2) (by_way (crosses_by p a) refl)
   where
     begun_line : IsBegun w.guest n does.0
@@ -140,14 +142,14 @@ falls_issue script w w' n sound does = subst (λ x. left_of x < left_of w) (sym 
 
     by_way : (o : Option Command) → crosses_by p a ≡ o → left_of (after_posting w does.0) < left_of w
     by_way None crosses =
-        let here : does.0 ≡ begins w.guest n a None = begun_line.begins ∙ ap (begins w.guest n a) crosses in
+        let here : does.0 ≡ begun_as w.guest n a None = begun_line.begins ∙ ap (begun_as w.guest n a) crosses in
         let p' : ProcessState = answered_here p a in
         let now : begun p' ≡ p.answered + 1 = begun_at_rest p' at.0 in
         let all = sum_by-set unbegun w.guest.processes n p' no_process begun_line.within in
         let same = ap (λ rs. sum_by (λ (r : Request). request_weight r.asks) rs) (append-nil w.requests) in
         subst (λ x. left_of (after_posting w x) < left_of w) (sym here) (omega (arith, more, was, now, all, same))
     by_way (Some c) crosses =
-        let here : does.0 ≡ begins w.guest n a (Some c) = begun_line.begins ∙ ap (begins w.guest n a) crosses in
+        let here : does.0 ≡ begun_as w.guest n a (Some c) = begun_line.begins ∙ ap (begun_as w.guest n a) crosses in
         let p' : ProcessState = sent p a in
         let now : begun p' ≡ p.answered + 1 = refl in
         let all = sum_by-set unbegun w.guest.processes n p' no_process begun_line.within in

@@ -37,14 +37,14 @@ use Rattle.vm_guest.specs.declared.asked.Asked.{Asked}
 use Rattle.vm_guest.specs.declared.status.Status.{Status}
 use Rattle.vm_guest.specs.declared.status.Status.TheVariants.{AtRest, Crossing}
 use Rattle.vm_guest.specs.Asking.{asked_at, statements_of}
-use Rattle.vm_guest.specs.Process.{ProcessState, is_at_rest, begun, current, next, crossing, handle_in, handle_at, crosses_by, sent, answered_here, replied, IsAnswered}
+use Rattle.vm_guest.specs.Process.{ProcessState, is_at_rest, begun, current, next, crossing, handle_in, handle_at, way_by, crosses_by, sent, answered_here, replied, IsAnswered}
 use Rattle.vm_guest.specs.Orderly.{IsOrderly, out_on}
-use Rattle.vm_guest.specs.Guest.{GuestState, no_process, process_in, process_at, with_process, lines_at, IsDriver, Posting, begins, begins_asked, issued, Collected}
+use Rattle.vm_guest.specs.Guest.{GuestState, no_process, process_in, process_at, with_process, lines_at, IsDriver, Posting, begins_asked, issued, Collected}
 use Rattle.vm_guest.proofs.LinesLemmas.{asking_line}
-use Rattle.vm_guest.proofs.OrderlyLemmas.{next_is, crossing_is, crossing_at_rest, begun_at_rest, begun_crossing, asks_read, out_same}
-use Rattle.vm_guest.proofs.GuestLemmas.{process_past, kept_issued, driver_with}
+use Rattle.vm_guest.proofs.OrderlyLemmas.{next_is, crossing_is, here_is, crossing_at_rest, begun_at_rest, begun_crossing, asks_read, out_same}
+use Rattle.vm_guest.proofs.GuestLemmas.{process_past, kept_issued, begun_as, begins_as, driver_with}
 use Rattle.vm_world.specs.World.{WorldState, after_posting, after_finishing}
-use Rattle.vm_world.specs.Sound.{Seat, no_seat, seat_of, seat_at, Stage, IsAsking, IsTold, requests_of, replies_of, crossing_count, session_count, IsResting, IsSoundProcess, IsSound, Agrees}
+use Rattle.vm_world.specs.Sound.{Seat, no_seat, seat_of, seat_at, Stage, IsAsking, IsTold, requests_of, replies_of, crossing_count, session_count, IsResting, IsSoundProcess, IsSoundOf, Agrees}
 use Rattle.vm_world.proofs.ListLemmas.{own_first, other_first, own_pushed, other_pushed, each_process}
 use Rattle.vm_world.proofs.SeatLemmas.{with_seat, row_at, IsPlace, sessions_with, places_with, row_length, vacant_more, sessions_most}
 use Rattle.vm_world.proofs.DoneLemmas.{IsHere, IsDone, IsServed, done}
@@ -58,11 +58,7 @@ pub record IsBegun (g : GuestState) (n : ℕ) (posting : Posting) : Type 0 where
   pub asked : Asked
   pub is : next (process_at g n) ≡ Some asked
   pub within : n < length g.processes
-  pub begins : posting ≡ begins g n asked (crosses_by (process_at g n) asked)
-
-abbrev posting_or : Posting → Option Posting → Posting
-posting_or d None = d
-posting_or d (Some p) = p
+  pub begins : posting ≡ begun_as g n asked (crosses_by (process_at g n) asked)
 
 place_of : (g : GuestState) (n : ℕ) (a : Asked) → next (process_at g n) ≡ Some a → n < length g.processes
 place_of g n a is =
@@ -80,7 +76,7 @@ begun_is g n posting does = by_next (next (process_at g n)) refl does
       asked = a;
       is = is;
       within = place_of g n a is;
-      begins = sym (ap (posting_or posting) does);
+      begins = begins_as g n a (way_by (process_at g n) a) posting does;
     }
 
 -- one place of an orderly driver
@@ -104,7 +100,7 @@ asked_is script g n a driver within asks =
     let each = orderly.each a.handle read.1 in
     record { within = read.1; built = read.2; legal = each.legal; model = each.model }
 
-pub sound_posting : (script : ScriptLines) (w : WorldState) (n : ℕ) (posting : Posting) → IsSound script w → issued w.guest n ≡ Some posting → IsDriver script posting.guest → IsSound script (after_posting w posting)
+pub sound_posting : (script : ScriptLines) (w : WorldState) (n : ℕ) (posting : Posting) → IsSoundOf script w → issued w.guest n ≡ Some posting → IsDriver script posting.guest → IsSoundOf script (after_posting w posting)
 sound_posting script w n posting sound does driver' = by_way (crosses_by (process_at w.guest n) begun.asked) refl
   where
     begun : IsBegun w.guest n posting
@@ -134,15 +130,16 @@ sound_posting script w n posting sound does driver' = by_way (crosses_by (proces
     count_with : (p' : ProcessState) → sum_by crossing_count (set w.guest.processes n p') + 0 ≡ sum_by crossing_count w.guest.processes + crossing_count p'
     count_with p' = (let all = sum_by-set crossing_count w.guest.processes n p' no_process begun.within in let none = at_rest_count p rests in omega (arith, all, none))
 
-    by_way : (o : Option Command) → crosses_by p a ≡ o → IsSound script (after_posting w posting)
+    by_way : (o : Option Command) → crosses_by p a ≡ o → IsSoundOf script (after_posting w posting)
     by_way None crosses =
-        let here : posting ≡ begins w.guest n a None = begun.begins ∙ ap (begins w.guest n a) crosses in
+        let here : posting ≡ begun_as w.guest n a None = begun.begins ∙ ap (begun_as w.guest n a) crosses in
         let p' : ProcessState = answered_here p a in
         let Q : ℕ → ProcessState → Type 0 = λ m x. IsSoundProcess x (row_at sound.seats m) (requests_of w m) (replies_of w m) in
-        let own : Q n p' = rw (quiet.0, quiet.1) (slices_answered p (row_at sound.seats n) a begun.is asked.within asked.legal asked.built crosses resting) in
+        let own : Q n p' = rw (quiet.0, quiet.1) (slices_answered p (row_at sound.seats n) a begun.is asked.within asked.legal
+        (here_is (unwrap_or (handle_at p a.handle).session 0) (local_of (handle_at p a.handle)) a.call asked.built crosses) resting) in
         let D : Posting → Type 0 = λ x. IsDriver script x.guest in
         let same : w.requests ++ [] ≡ w.requests = append-nil w.requests in
-        let there : IsSound script (record w { guest = with_process w.guest n p' }) = record {
+        let there : IsSoundOf script (record w { guest = with_process w.guest n p' }) = record {
           driver = subst D here driver';
           seats = sound.seats;
           seated = sound.seated ∙ sym (length-set w.guest.processes n p');
@@ -156,11 +153,11 @@ sound_posting script w n posting sound does driver' = by_way (crosses_by (proces
           model = sound.model;
           small = sound.small;
         } in
-        let W : List Request → Type 0 = λ rs. IsSound script (record w { guest = with_process w.guest n p'; requests = rs }) in
-        let P : Posting → Type 0 = λ x. IsSound script (after_posting w x) in
+        let W : List Request → Type 0 = λ rs. IsSoundOf script (record w { guest = with_process w.guest n p'; requests = rs }) in
+        let P : Posting → Type 0 = λ x. IsSoundOf script (after_posting w x) in
         subst P (sym here) (subst W (sym same) there)
     by_way (Some c) crosses =
-        let here : posting ≡ begins w.guest n a (Some c) = begun.begins ∙ ap (begins w.guest n a) crosses in
+        let here : posting ≡ begun_as w.guest n a (Some c) = begun.begins ∙ ap (begun_as w.guest n a) crosses in
         let p' : ProcessState = sent p a in
         let r : Request = record { who = n; asks = Judged (Ok c) } in
         let w' : WorldState = record w { guest = with_process w.guest n p'; requests = w.requests ++ r ∷ [] } in
@@ -171,7 +168,7 @@ sound_posting script w n posting sound does driver' = by_way (crosses_by (proces
         (let R : List Request → Type 0 = λ xs. IsSoundProcess (process_in w.guest.processes m) (row_at sound.seats m) xs (replies_of w m) in
         subst R (sym (other_pushed (λ (x : Request). x.who) m w.requests r (λ same. differs (sym same)))) (sound.processes m inside)) in
         let D : Posting → Type 0 = λ x. IsDriver script x.guest in
-        let there : IsSound script w' = record {
+        let there : IsSoundOf script w' = record {
           driver = subst D here driver';
           seats = sound.seats;
           seated = sound.seated ∙ sym (length-set w.guest.processes n p');
@@ -186,7 +183,7 @@ sound_posting script w n posting sound does driver' = by_way (crosses_by (proces
           model = sound.model;
           small = sound.small;
         } in
-        let P : Posting → Type 0 = λ x. IsSound script (after_posting w x) in
+        let P : Posting → Type 0 = λ x. IsSoundOf script (after_posting w x) in
         subst P (sym here) there
 
 -- ---- the device does a request
@@ -316,7 +313,7 @@ replied_as p a p' bytes s c response reply answered is crosses out written fits 
     subst A same (subst T read answered.answers.after) reply (subst S out legal)
 
 -- The handle whose request waits first, in its place.
-record IsServedFirst (script : ScriptLines) (w : WorldState) (r : Request) (rs : List Request) (sound : IsSound script w) : Type 0 where
+record IsServedFirst (script : ScriptLines) (w : WorldState) (r : Request) (rs : List Request) (sound : IsSoundOf script w) : Type 0 where
   within : r.who < length w.guest.processes
   none : (requests_of (record w { requests = rs }) r.who ≡ []) × (replies_of w r.who ≡ [])
   waiting : IsWaiting (process_at w.guest r.who) (row_at sound.seats r.who) r
@@ -325,11 +322,11 @@ record IsServedFirst (script : ScriptLines) (w : WorldState) (r : Request) (rs :
   built : IsBuilt waiting.asking.sent.call
   vacant : (nonblock : Bool) → waiting.asking.sent.call ≡ OpenHandle nonblock → (handle_at (process_at w.guest r.who) waiting.asked.handle).session ≡ None
 
-few_sessions : (script : ScriptLines) (w : WorldState) → (sound : IsSound script w) → length w.host.sessions < 2 ^ 32
+few_sessions : (script : ScriptLines) (w : WorldState) → (sound : IsSoundOf script w) → length w.host.sessions < 2 ^ 32
 few_sessions script w sound =
     let most = sessions_most sound.seats in omega (arith, most, sound.opened, sound.opens, sound.small)
 
-served_first : (script : ScriptLines) (w : WorldState) (r : Request) (rs : List Request) (sound : IsSound script w) → w.requests ≡ r ∷ rs → IsServedFirst script w r rs sound
+served_first : (script : ScriptLines) (w : WorldState) (r : Request) (rs : List Request) (sound : IsSoundOf script w) → w.requests ≡ r ∷ rs → IsServedFirst script w r rs sound
 served_first script w r rs sound first =
     let within : r.who < length w.guest.processes = (let P : List Request → Type 0 = λ xs. All (λ (x : Request). x.who < length w.guest.processes) xs in subst P first sound.asking 0 r (omega arith)) in
     let p : ProcessState = process_at w.guest r.who in
@@ -361,7 +358,7 @@ served_first script w r rs sound first =
     }
 
 -- where the first request opens a session, there is room for one more
-pub room_to_open : (script : ScriptLines) (w : WorldState) (r : Request) (rs : List Request) (sound : IsSound script w) → w.requests ≡ r ∷ rs → r.asks ≡ Judged (Ok OpenSession)
+pub room_to_open : (script : ScriptLines) (w : WorldState) (r : Request) (rs : List Request) (sound : IsSoundOf script w) → w.requests ≡ r ∷ rs → r.asks ≡ Judged (Ok OpenSession)
     → length w.host.sessions < w.host.opens
 room_to_open script w r rs sound first opens =
     let served = served_first script w r rs sound first in
@@ -372,10 +369,10 @@ room_to_open script w r rs sound first opens =
     let more = vacant_more sound.seats r.who served.waiting.asked.handle served.here.place vacant in
     omega (arith, more, sound.opened, sound.opens)
 
-pub sound_finishing : (script : ScriptLines) (w : WorldState) (r : Request) (rs : List Request) (memory : Bool) → IsSound script w → w.requests ≡ r ∷ rs
-    → IsSound script (after_finishing w rs (executed memory w.host r))
+pub sound_finishing : (script : ScriptLines) (w : WorldState) (r : Request) (rs : List Request) (memory : Bool) → IsSoundOf script w → w.requests ≡ r ∷ rs
+    → IsSoundOf script (after_finishing w rs (executed memory w.host r))
 sound_finishing script w r rs memory sound first =
-    let F : Ask → Type 0 = λ x. IsSound script (after_finishing w rs (executed_ask memory w.host r.who x)) in
+    let F : Ask → Type 0 = λ x. IsSoundOf script (after_finishing w rs (executed_ask memory w.host r.who x)) in
     subst F (sym asking.asked) there
   where
     served : IsServedFirst script w r rs sound
@@ -441,7 +438,7 @@ sound_finishing script w r rs memory sound first =
           (subst R less (subst S (sym (other_pushed (λ (x : Reply). x.who) m w.replies q (λ same. differs (sym same)))) (sound.processes m inside)))
     ]
 
-    there : IsSound script w'
+    there : IsSoundOf script w'
     there = record {
       driver = sound.driver;
       seats = seats';
@@ -459,10 +456,10 @@ sound_finishing script w r rs memory sound first =
 
 -- ---- the driver collects a reply
 
-pub sound_collected : (script : ScriptLines) (w : WorldState) (q : Reply) (qs : List Reply) (g : GuestState) → IsSound script w → w.replies ≡ q ∷ qs → Collected w.guest q g → IsDriver script g
-    → IsSound script (record w { guest = g; replies = qs })
+pub sound_collected : (script : ScriptLines) (w : WorldState) (q : Reply) (qs : List Reply) (g : GuestState) → IsSoundOf script w → w.replies ≡ q ∷ qs → Collected w.guest q g → IsDriver script g
+    → IsSoundOf script (record w { guest = g; replies = qs })
 sound_collected script w q qs g sound first collected driver' =
-    let G : GuestState → Type 0 = λ x. IsDriver script x → IsSound script (record w { guest = x; replies = qs }) in
+    let G : GuestState → Type 0 = λ x. IsDriver script x → IsSoundOf script (record w { guest = x; replies = qs }) in
     subst G (sym collected.after) there driver'
   where
     n : ℕ
@@ -520,7 +517,7 @@ sound_collected script w q qs g sound first collected driver' =
         let less : replies_of w m ≡ replies_of w' m = ap (λ xs. replies_of (record w { replies = xs }) m) first ∙ other_first (λ (x : Reply). x.who) m q qs (λ same. differs (sym same)) in
         subst (λ xs. IsSoundProcess (process_in w.guest.processes m) (row_at sound.seats m) (requests_of w m) xs) less (sound.processes m within)
 
-    there : IsDriver script (with_process w.guest n p') → IsSound script w'
+    there : IsDriver script (with_process w.guest n p') → IsSoundOf script w'
     there driver = record {
       driver = driver;
       seats = sound.seats;
@@ -543,7 +540,7 @@ sound_collected script w q qs g sound first collected driver' =
 -- ---- what is said is what is to be said
 
 -- the command of a line that is begun fits its fields
-pub command_fits : (script : ScriptLines) (w : WorldState) (n : ℕ) (a : Asked) (c : Command) → IsSound script w → next (process_at w.guest n) ≡ Some a → crosses_by (process_at w.guest n) a ≡ Some c
+pub command_fits : (script : ScriptLines) (w : WorldState) (n : ℕ) (a : Asked) (c : Command) → IsSoundOf script w → next (process_at w.guest n) ≡ Some a → crosses_by (process_at w.guest n) a ≡ Some c
     → (n < length w.guest.processes) × IsCommand c
 command_fits script w n a c sound is crosses =
     let within = place_of w.guest n a is in
@@ -566,7 +563,7 @@ command_fits script w n a c sound is crosses =
     )
 
 -- the response to the first request is one that its command may have
-pub reply_fits : (script : ScriptLines) (w : WorldState) (r : Request) (rs : List Request) (memory : Bool) (c : Command) → IsSound script w → w.requests ≡ r ∷ rs → r.asks ≡ Judged (Ok c)
+pub reply_fits : (script : ScriptLines) (w : WorldState) (r : Request) (rs : List Request) (memory : Bool) (c : Command) → IsSoundOf script w → w.requests ≡ r ∷ rs → r.asks ≡ Judged (Ok c)
     → MayReply c (performed memory w.host c).response
 reply_fits script w r rs memory c sound first says =
     let served = served_first script w r rs sound first in
@@ -587,7 +584,7 @@ pub record IsBroughtTo (g : GuestState) (n : ℕ) (bytes : List ℕ) : Type 0 wh
   pub enough : response_len command bytes ≤ length bytes
   pub may : MayAnswer (handle_at (process_at g n) asked.handle) asked.line asked.call (response_of command bytes)
 
-pub brought_to : (script : ScriptLines) (w : WorldState) (q : Reply) (qs : List Reply) → IsSound script w → w.replies ≡ q ∷ qs → IsBroughtTo w.guest q.who q.bytes
+pub brought_to : (script : ScriptLines) (w : WorldState) (q : Reply) (qs : List Reply) → IsSoundOf script w → w.replies ≡ q ∷ qs → IsBroughtTo w.guest q.who q.bytes
 brought_to script w q qs sound first =
     let n : ℕ = q.who in
     let p : ProcessState = process_at w.guest n in

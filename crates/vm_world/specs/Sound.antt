@@ -146,9 +146,9 @@ stage_on h None rs qs = Resting
 stage_on h (Some a) rs qs = if a.handle == h then stage_from rs qs else Resting
 
 -- nothing of a process is in the link, unless a line of it is on its way
-abbrev pub IsQuiet : Option Asked → List Request → List Reply → Type 0
-IsQuiet None rs qs = (rs ≡ []) × (qs ≡ [])
-IsQuiet (Some a) rs qs = Unit {0}
+abbrev pub IsOffTheLink : Option Asked → List Request → List Reply → Type 0
+IsOffTheLink None rs qs = (rs ≡ []) × (qs ≡ [])
+IsOffTheLink (Some a) rs qs = Unit {0}
 
 -- one for a process that has a line on its way
 abbrev pub crossing_count : ProcessState → ℕ
@@ -160,7 +160,7 @@ session_count s = if is_some s.session then 1 else 0
 
 -- What a process's handles have to do with their seats, and with what the link has of the process.
 pub record IsSoundProcess (p : ProcessState) (row : List Seat) (rs : List Request) (qs : List Reply) : Type 0 where
-  pub quiet : IsQuiet (crossing p) rs qs
+  pub quiet : IsOffTheLink (crossing p) rs qs
   pub named : length row ≡ length p.handles
   -- each handle's slice
   pub ahead : (h : ℕ) → h < length p.handles
@@ -171,7 +171,8 @@ pub record IsResting (p : ProcessState) (row : List Seat) : Type 0 where
   pub named : length row ≡ length p.handles
   pub ahead : (h : ℕ) → h < length p.handles → Ahead (handle_at p h) Resting (slice_index_or row h no_seat)
 
-pub record IsSound (script : ScriptLines) (w : WorldState) : Type 0 where
+-- The world is a sound one of this script.
+pub record IsSoundOf (script : ScriptLines) (w : WorldState) : Type 0 where
   pub driver : IsDriver script w.guest
   -- each handle's seat, process by process
   pub seats : List (List Seat)
@@ -188,3 +189,7 @@ pub record IsSound (script : ScriptLines) (w : WorldState) : Type 0 where
   pub opens : sum_by length seats ≤ w.host.opens
   pub model : w.host.model ≡ w.guest.model
   pub small : w.host.opens < 2 ^ 32
+
+-- The world is a sound one of its script.
+abbrev pub IsSound : WorldState → Type 0
+IsSound w = IsSoundOf w.script w

@@ -12,8 +12,9 @@ use Rattle.vm_link.specs.declared.link.Turn.{Turn}
 use Rattle.vm_link.specs.declared.link.Turn.TheVariants.{Did, Idle}
 use Rattle.vm_host.specs.Host.{fresh_host}
 use Rattle.vm_script.specs.Script.{ScriptLines}
-use Rattle.vm_guest.specs.Process.{ProcessState, begun, can_issue}
-use Rattle.vm_guest.specs.Guest.{GuestState, IsDone as IsGuestDone, IsFreshGuest, may_issue, Posting, issued, Collected}
+use Rattle.vm_local.specs.declared.entry.Entry.{Entry}
+use Rattle.vm_guest.specs.Process.{ProcessState, begun, can_issue, handle_at}
+use Rattle.vm_guest.specs.Guest.{GuestState, process_at, IsDone as IsGuestDone, IsFreshGuest, may_issue, Posting, issued, Collected}
 use Rattle.vm_world.specs.declared.step.Step.{Step}
 use Rattle.vm_world.specs.declared.step.Step.TheVariants.{Issue, Execute, Collect}
 
@@ -37,6 +38,14 @@ pub record IsOpening (script : ScriptLines) (w : WorldState) : Type 0 where
   pub host : w.host ≡ fresh_host script.model (handle_count script)
   pub requests : w.requests ≡ []
   pub replies : w.replies ≡ []
+
+-- how many statements a script has
+abbrev pub statement_count : ScriptLines → ℕ
+statement_count script = sum_by (λ p. length p.lines) script.processes
+
+-- the log of a handle, by its process and its place there
+abbrev pub log_of : WorldState → ℕ → ℕ → List Entry
+log_of w n h = (handle_at (process_at w.guest n) h).entries
 
 -- every line is answered
 abbrev pub IsDone : WorldState → Type 0

@@ -2,12 +2,12 @@
 
 ghost use Rattle.std.specs.Prelude.{◌≡◌, ◌≤◌, ◌<◌, ◌^◌, ◌↔◌, ◌++◌, true, false, IfOk, IfSome, IsTrue, length, slice_get};
 ghost use Rattle.vm_link.specs.Queue.{queue_at};
-ghost use Rattle.vm_link.specs.declared.link.QueueId.TheVariants.{Command as Commands};
+ghost use Rattle.vm_link.specs.declared.link.QueueId.TheVariants.{Command as Commands, Event as Events};
 ghost use Rattle.vm_link.specs.declared.link.Turn.TheVariants.{Did, Idle};
 ghost use Rattle.vm_guest.specs.Guest.{IsReadScript};
 ghost use Rattle.vm_world.specs.World.{handle_count, IsOpening, IsDone, issues_from, listed, enabled, is_enabled, turn_of, Turns, left_of};
 ghost use Rattle.vm_world.specs.Sound.{IsSound};
-ghost use Rattle.vm_world.specs.Carried.{IsEmpty, command_room, world_of};
+ghost use Rattle.vm_world.specs.Carried.{IsEmpty, command_room, event_room, world_of};
 
 use crate::step::Step;
 use std::alloc::Global;
@@ -38,7 +38,7 @@ impl<L: Link> Model for World<L> {
 
     ghost view = { λ w. world_of w.script w.guest w.host (queue_at Commands (L.queues w.link)) };
 
-    ghost invariant = { λ w. IsSound w.script (world_of w.script w.guest w.host (queue_at Commands (L.queues w.link))) × IsCarried (queue_at Commands (L.queues w.link)) };
+    ghost invariant = { λ w. IsSound (world_of w.script w.guest w.host (queue_at Commands (L.queues w.link))) × IsCarried (queue_at Commands (L.queues w.link)) };
 }
 
 // How many handles a script has.
@@ -102,7 +102,9 @@ impl<L: Link + Drop> World<L> {
     pub fn new(alloc: Global, script: Script, link: L) -> Result<World<L>, Memory>
         requires read { IsReadScript script }
         requires room { command_room ≤ (queue_at Commands (L.queues link)).size }
+        requires event_room { event_room ≤ (queue_at Events (L.queues link)).size }
         requires empty { IsEmpty (queue_at Commands (L.queues link)) }
+        requires no_events { IsEmpty (queue_at Events (L.queues link)) }
         ensures { IfOk result (λ w. IsOpening script w) }
     {
         let guest = Guest::new(alloc, &script)?;
@@ -175,7 +177,7 @@ impl<L: Link> World<L> {
     /// The driver.
     pub fn guest(&self) -> &Guest
         ensures guest { result.now ≡ self.now.guest }
-        ensures sound { IsSound self.now.script self.now }
+        ensures sound { IsSound self.now }
     {
         &self.guest
     }
