@@ -5,7 +5,7 @@ use Rattle.vm_link.specs.declared.link.Turn.{Turn}
 use Rattle.vm_world.specs.World.{WorldState, IsDone, enabled, is_enabled, turn_by, turn_of, Turns, Steps}
 use Rattle.vm_world.specs.declared.step.Step.TheVariants.{Execute}
 use Rattle.vm_world.specs.declared.step.Step.{Step}
-use Rattle.vm_sched.specs.Schedule.{next_state, place_in, Chooses, Schedules, IsScheduled}
+use Rattle.vm_sched.specs.Schedule.{next_state, place_chosen, Chooses, Schedules, IsScheduled}
 
 -- What the schedule leads to from here it leads to from the start.
 abbrev pub LeadsOn : WorldState → ℕ → WorldState → ℕ → Type 0
@@ -30,10 +30,10 @@ some_step w o place count at within all =
     subst (λ x. IsSome x) (sym (at ∙ slice_get-get_or (enabled w) place Execute (omega (arith, within, all)))) refl
 
 -- the step at the place that the state chooses is the one that it chooses
-pub chosen : (w : WorldState) (o : Option Step) (x place count : ℕ) (s : Step) → o ≡ slice_get (enabled w) place → place ≡ place_in x count → count ≡ length (enabled w) → o ≡ Some s
+pub chosen : (w : WorldState) (o : Option Step) (x place count : ℕ) (s : Step) → o ≡ slice_get (enabled w) place → place ≡ place_chosen x count → count ≡ length (enabled w) → o ≡ Some s
     → Chooses x w s
 chosen w o x place count s at place_is all is =
-    sym (at ∙ ap (slice_get (enabled w)) (place_is ∙ ap (place_in x) all)) ∙ is
+    sym (at ∙ ap (slice_get (enabled w)) (place_is ∙ ap (place_chosen x) all)) ∙ is
 
 -- a step that may come next is done
 pub does : (w next : WorldState) (o : Option Step) (s : Step) (turn : Turn) → IfSome o (λ x. is_enabled w x ≡ true) → o ≡ Some s → turn ≡ turn_of w s → Turns turn w s next → Steps w s next

@@ -8,12 +8,12 @@ abbrev pub next_state : ℕ → ℕ
 next_state x = (x * 6364136223846793005 + 1442695040888963407) % 2 ^ 64
 
 -- the place that a state chooses among n
-abbrev pub place_in : ℕ → ℕ → ℕ
-place_in x n = (x / 2 ^ 33) % n
+abbrev pub place_chosen : ℕ → ℕ → ℕ
+place_chosen x n = (x / 2 ^ 33) % n
 
 -- the step that a state chooses in a world is this one
 abbrev pub Chooses : ℕ → WorldState → Step → Type 0
-Chooses x w s = slice_get (enabled w) (place_in x (length (enabled w))) ≡ Some s
+Chooses x w s = slice_get (enabled w) (place_chosen x (length (enabled w))) ≡ Some s
 
 -- From a world and a state of the generator these steps are the schedule's: each is the one that the next state chooses
 -- in its world, as long as a line isn't answered; then the run ends.

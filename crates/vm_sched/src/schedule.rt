@@ -1,5 +1,5 @@
 ghost use Rattle.std.specs.Prelude.{◌≡◌, ◌<◌};
-ghost use Rattle.vm_sched.specs.Schedule.{next_state, place_in, IsScheduled};
+ghost use Rattle.vm_sched.specs.Schedule.{next_state, place_chosen, IsScheduled};
 
 use vm_link::Link;
 use vm_world::World;
@@ -19,9 +19,9 @@ fn next_state(state: u64) -> u64
 }
 
 // The place that a state chooses among `count`.
-fn place_in(state: u64, count: usize) -> usize
+fn place_chosen(state: u64, count: usize) -> usize
     requires { 0 < count }
-    ensures chosen { result ≡ place_in state count }
+    ensures chosen { result ≡ place_chosen state count }
     ensures within { result < count }
 {
     ((state >> LOW_BITS) % count as u64) as usize
@@ -37,7 +37,7 @@ pub fn run_schedule<L: Link>(world: &mut World<L>, seed: u64)
     let mut state = seed;
     while !world.is_done() {
         state = next_state(state);
-        let place = place_in(state, world.enabled_len());
+        let place = place_chosen(state, world.enabled_len());
         let step = world.enabled_at(place).unwrap();
         world.step(step);
     }
