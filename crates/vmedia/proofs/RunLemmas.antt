@@ -22,7 +22,7 @@ use Rattle.vm_guest.specs.Process.{ProcessState, is_done, is_at_rest, crossing, 
 use Rattle.vm_guest.specs.Asking.{statements_of}
 use Rattle.vm_world.specs.World.{WorldState, IsDone, IsOpening}
 use Rattle.vm_world.specs.declared.step.Step.{Step}
-use Rattle.vm_world.specs.Sound.{Seat, IsSound, IsSoundProcess, IsResting, no_seat, seat_at}
+use Rattle.vm_world.specs.Sound.{Seat, IsSoundOf, IsSoundProcess, IsResting, no_seat, seat_at}
 use Rattle.vm_world.proofs.SliceLemmas.{resting_is}
 use Rattle.vm_sched.specs.Schedule.{Schedules, IsScheduled, next_state}
 use Rattle.vm_report.specs.Logs.{HandleLog, Logs, handle_logs, process_logs}
@@ -195,7 +195,7 @@ same_rows (r ∷ rs) [] same each n h = cc
 same_rows (r ∷ rs) (s ∷ ss) same each zero h = each 0 (omega arith) h
 same_rows (r ∷ rs) (s ∷ ss) same each (suc n) h = same_rows rs ss (omega (arith, same)) (λ k within. each (suc k) (omega (arith, within))) n h
 
-seats_tell : (script : ScriptLines) (w : WorldState) (sound : IsSound script w) → IsGuestDone w.guest
+seats_tell : (script : ScriptLines) (w : WorldState) (sound : IsSoundOf script w) → IsGuestDone w.guest
     → (n h : ℕ) → id_at (rows_of (handles_of w.guest)) n h ≡ (seat_at sound.seats n h).session
 seats_tell script w sound done =
     same_rows sound.seats w.guest.processes sound.seated (λ n within.
@@ -204,7 +204,7 @@ seats_tell script w sound done =
     let rests = resting_is p (get_or sound.seats n []) _ _ none (sound.processes n within) in
     same_row (get_or sound.seats n []) p.handles rests.named (λ h inside. ap (λ s. s.session) (rests.ahead h inside).1)))
 
-numbers_in : (script : ScriptLines) (w : WorldState) → IsSound script w → IsGuestDone w.guest → AreNumbersIn (length w.host.sessions) (rows_of (handles_of w.guest))
+numbers_in : (script : ScriptLines) (w : WorldState) → IsSoundOf script w → IsGuestDone w.guest → AreNumbersIn (length w.host.sessions) (rows_of (handles_of w.guest))
 numbers_in script w sound done =
     let tell = seats_tell script w sound done in
     record {
@@ -219,7 +219,7 @@ each_answered : (script : ScriptLines) (g : GuestState) → IsDriver script g �
     → (n : ℕ) → n < length g.processes → IsAnswered (get_or script.processes n no_lines) (process_in g.processes n).handles
 each_answered script g d done n within = answered script.model (lines_at script n) (process_at g n) (d.orderly n within) (process_done g n done within)
 
-logs_are : (script : ScriptLines) (w : WorldState) → IsSound script w → IsGuestDone w.guest → AreLogsOf script (logs_of_world script w)
+logs_are : (script : ScriptLines) (w : WorldState) → IsSoundOf script w → IsGuestDone w.guest → AreLogsOf script (logs_of_world script w)
 logs_are script w sound done =
     let g : GuestState = w.guest in
     let ids = sessions_by_processes 0 script.processes (handles_of g) (driver_fits script g sound.driver) in
@@ -232,7 +232,7 @@ logs_are script w sound done =
     }
 
 -- what is printed of a world to which the schedule led is the text of the seed's run
-pub ran : (seed : ℕ) (script : ScriptLines) (w w' : WorldState) (text : List ℕ) → IsOpening script w → IsScheduled w seed w' → IsSound script w'
+pub ran : (seed : ℕ) (script : ScriptLines) (w w' : WorldState) (text : List ℕ) → IsOpening script w → IsScheduled w seed w' → IsSoundOf script w'
     → text ≡ text_of (logs_of_guest script w'.guest) (words_of script) → IsRun seed script text
 ran seed script w w' text begins scheduled sound printed =
     let done = scheduled_done scheduled.0 w seed w' scheduled.1 in (

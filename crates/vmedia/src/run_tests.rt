@@ -1,6 +1,7 @@
 ghost use Rattle.std.specs.Prelude.{◌<◌, ◌-◌, ◌^◌, length};
 
 use crate::run::run_world;
+use std::alloc::Global;
 use std::test::Fail;
 use vm_chain::Chain;
 use vm_link::{Finished, Link, Parcel, PlainLink, QueueId, Taken};
@@ -55,6 +56,24 @@ impl<L: Link> Link for Counting<L> {
     }
 }
 
+// How many chains were posted, taken, finished and collected in the run of a script.
+fn crossings_of(alloc: Global, bytes: &[u8]) -> Result<[u32; 4], Fail>
+    requires { length bytes.now < 2 ^ 32 - 1 }
+{
+    let script = read_script(alloc, bytes)?;
+    let link = Counting {
+        link: PlainLink::new(alloc, 64, 16)?,
+        posted: 0,
+        taken: 0,
+        finished: 0,
+        collected: 0,
+    };
+    let mut world = World::new(alloc, script, link)?;
+    run_world(alloc, &mut world, 7)?;
+    let link = world.link();
+    Ok([link.posted, link.taken, link.finished, link.collected])
+}
+
 #[test]
 fn opens_and_the_calls_of_open_handles_cross(rt: HostRuntime) -> Result<(), Fail> {
     let scripts: [(&[u8], u32); 6] = [
@@ -72,20 +91,7 @@ fn opens_and_the_calls_of_open_handles_cross(rt: HostRuntime) -> Result<(), Fail
         ),
     ];
     for (bytes, crossings) in scripts {
-        let script = read_script(rt.alloc(), bytes)?;
-        let link = Counting {
-            link: PlainLink::new(rt.alloc(), 64, 16)?,
-            posted: 0,
-            taken: 0,
-            finished: 0,
-            collected: 0,
-        };
-        let mut world = World::new(rt.alloc(), script, link)?;
-        run_world(rt.alloc(), &mut world, 7)?;
-        let link = world.link();
-        for count in [link.posted, link.taken, link.finished, link.collected] {
-            assert_eq!(rt; count, crossings);
-        }
+        assert_eq!(rt; crossings_of(rt.alloc(), bytes)?, [crossings; 4]);
     }
     Ok(())
 }

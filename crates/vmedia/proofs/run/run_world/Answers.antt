@@ -2,7 +2,7 @@
 use Rattle.std.proofs.Common.{◌≡◌, ℕ, List, subst, sym, ◌∙◌}
 use Rattle.vm_script.specs.Script.{ScriptLines}
 use Rattle.vm_guest.specs.Guest.{GuestState, IsDriver}
-use Rattle.vm_world.specs.Sound.{IsSound}
+use Rattle.vm_world.specs.Sound.{IsSoundOf}
 use Rattle.vm_report.specs.Text.{text_of}
 use Rattle.vmedia.specs.Printing.{logs_of_guest, words_of}
 use Rattle.vmedia.specs.Run.{IsRun}
@@ -18,8 +18,8 @@ print-requires g c =
 pub returns : goal.returns
 returns g c script begins =
     let same : c.run_schedule.new.world.script ≡ script = c.run_schedule.ensures.script ∙ begins.is in
-    let S : ScriptLines → Type 0 = λ s. IsSound s c.run_schedule.new.world in
-    let sound : IsSound script c.run_schedule.new.world = subst S same c.guest.ensures.sound in
+    let S : ScriptLines → Type 0 = λ s. IsSoundOf s c.run_schedule.new.world in
+    let sound : IsSoundOf script c.run_schedule.new.world = subst S same c.guest.ensures.sound in
     ok_weaken c.print.result (λ text. text.items ≡ text_of (logs_of_guest c.script.result.now c.guest.result.now) (words_of c.script.result.now))
     (λ text. IsRun c.args.seed script text.items) (λ text printed.
     (let P : ScriptLines → Type 0 = λ s. text.items ≡ text_of (logs_of_guest s c.guest.result.now) (words_of s) in
