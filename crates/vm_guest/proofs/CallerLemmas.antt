@@ -16,7 +16,7 @@ use Rattle.vm_wire.specs.declared.response.Response.{Response}
 use Rattle.vm_wire.specs.Wire.{command_bytes, response_of}
 use Rattle.vm_wire.specs.declared.command.Command.{Command}
 use Rattle.v4l_layout.specs.declared.short.Short.{Short}
-use Rattle.vm_handle.specs.Exchange.{way_of, crossing as crossing_by}
+use Rattle.vm_handle.specs.Exchange.{way_of, touches_memory, crossing as crossing_by}
 use Rattle.vm_handle.specs.Handle.{HandleState, local_of, way_from, asks, IsAnswer, with_reply, Starts as StartsCall}
 use Rattle.vm_handle.specs.declared.handle.Started.{Started}
 use Rattle.vm_handle.specs.declared.handle.Started.TheVariants.{Answered as Done, Send, Wait}
@@ -33,7 +33,7 @@ use Rattle.vm_guest.specs.declared.status.Status.{Status}
 use Rattle.vm_guest.specs.declared.status.Status.TheVariants.{AtRest}
 use Rattle.vm_guest.specs.Asking.{asked_at, statements_of}
 use Rattle.vm_guest.specs.Chain.{IsChain, Carries, with_command, reply_bytes}
-use Rattle.vm_guest.specs.Process.{ProcessState, is_at_rest, begun, current, next, crossing, no_handle, handle_in, way_in, crosses_in, crosses_by, handles_replied, Replies, RepliesTo, IsReplyTo, Answered, IsAnswered}
+use Rattle.vm_guest.specs.Process.{ProcessState, is_at_rest, begun, current, issuing, next, crossing, no_handle, handle_in, way_in, crosses_in, crosses_by, handles_replied, Replies, RepliesTo, IsReplyTo, Answered, IsAnswered}
 use Rattle.vm_guest.specs.Orderly.{out_on, IsOrderly}
 use Rattle.vm_guest.specs.Caller.{counted, IsOwn, HasChain, IsUsual, CanStart, Starts, CanLog, CanReply, Logs}
 use Rattle.vm_guest.proofs.LinesLemmas.{lines_of-count, lines_of-asked, lines_of-take, one_if, one_if-most}
@@ -233,10 +233,14 @@ pub own_chain : (n : ℕ) (s : Status) (home : Option Parcel) (chain : Parcel) �
 own_chain n s home chain has rests is = subst (IsOwn n) is (subst (λ x. HasChain n x home) rests has)
 
 -- the process is at rest, and this is what its next statement asks
-pub next_from : (p : ProcessState) (a : Asked) → p.status ≡ AtRest → asked_at p.statements p.answered ≡ Some a → next p ≡ Some a
-next_from p a rests asks = ap (λ s. if is_at_rest s then current p else None) rests ∙ asks
+pub next_from : (p : ProcessState) (a : Asked) → p.status ≡ AtRest → issuing (asked_at p.statements p.answered) ≡ Some a → next p ≡ Some a
+next_from p a rests asks = ap (λ s. if is_at_rest s then issuing (current p) else None) rests ∙ asks
 
-pub may_start : (p q : ProcessState) (a : Asked) → p ≡ q → (m : Model) × (lines : ProcessLines) × IsOrderly m lines q → p.status ≡ AtRest → asked_at p.statements p.answered ≡ Some a → CanStart p.handles a
+-- what touches no memory's bytes is begun at once
+pub untouched_issuing : (o : Option Asked) (a : Asked) → o ≡ Some a → touches_memory a.call ≡ false → issuing o ≡ Some a
+untouched_issuing o a is untouched = ap issuing is ∙ ap (λ t. if t then None else Some a) untouched
+
+pub may_start : (p q : ProcessState) (a : Asked) → p ≡ q → (m : Model) × (lines : ProcessLines) × IsOrderly m lines q → p.status ≡ AtRest → issuing (asked_at p.statements p.answered) ≡ Some a → CanStart p.handles a
 may_start p q a same orderly rests asks = can_start orderly.0 orderly.1 p a (subst (λ x. IsOrderly orderly.0 orderly.1 x) (sym same) orderly.2) (next_from p a rests asks)
 
 -- a chain that carries a command may be posted

@@ -31,18 +31,27 @@ use Rattle.vm_guest.specs.declared.asked.Statement.{Statement}
 use Rattle.vm_guest.specs.declared.status.Status.{Status}
 use Rattle.vm_guest.specs.declared.status.Status.TheVariants.{AtRest, Crossing}
 use Rattle.vm_guest.specs.Asking.{asked_at, statements_of}
-use Rattle.vm_guest.specs.Process.{ProcessState, is_at_rest, begun_by, begun, current, next, crossing, no_handle, handle_in, handle_at, crosses_in, crosses_by, with_handle, with_answer, handles_sent, handles_answered, handles_replied, sent, answered_here, replied}
+use Rattle.vm_guest.specs.Process.{ProcessState, is_at_rest, begun_by, begun, current, issuing, next, crossing, no_handle, handle_in, handle_at, crosses_in, crosses_by, with_handle, with_answer, handles_sent, handles_answered, handles_replied, sent, answered_here, replied}
 use Rattle.vm_guest.specs.Orderly.{AnswersLines, out_on, Crosses, IsOrderly}
 use Rattle.vm_guest.proofs.LinesLemmas.{lines_of-asked, lines_of-other, calls_of-push, asked_is_read}
 
 -- ---- what is next, and what is on its way
 
+-- what is begun at once is what is asked
+issuing_is : (o : Option Asked) (a : Asked) → issuing o ≡ Some a → o ≡ Some a
+issuing_is None a is = cc
+issuing_is (Some b) a is = by_kind (touches_memory b.call) is
+  where
+    by_kind : (t : Bool) → (if t then None else Some b) ≡ Some a → Some b ≡ Some a
+    by_kind true is = cc
+    by_kind false is = is
+
 -- where a statement is next, the process is at rest
 pub next_is : (p : ProcessState) (a : Asked) → next p ≡ Some a → (p.status ≡ AtRest) × (current p ≡ Some a)
 next_is p a is = known p.status refl is
   where
-    known : (s : Status) → p.status ≡ s → (if is_at_rest s then current p else None) ≡ Some a → (p.status ≡ AtRest) × (current p ≡ Some a)
-    known AtRest at is = (at, is)
+    known : (s : Status) → p.status ≡ s → (if is_at_rest s then issuing (current p) else None) ≡ Some a → (p.status ≡ AtRest) × (current p ≡ Some a)
+    known AtRest at is = (at, issuing_is (current p) a is)
     known Crossing at is = cc
 
 -- where a statement is on its way, the process isn't at rest

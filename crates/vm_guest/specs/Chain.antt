@@ -5,9 +5,8 @@ use Rattle.vm_mem.specs.declared.page.Page.{Page}
 use Rattle.vm_link.specs.declared.parcel.Parcel.{Parcel}
 use Rattle.vm_link.specs.declared.parcel.Finished.{Finished}
 use Rattle.vm_wire.specs.Message.{Reply}
-use Rattle.vm_wire.specs.Wire.{command_bytes, response_of}
+use Rattle.vm_wire.specs.Wire.{command_bytes}
 use Rattle.vm_wire.specs.declared.command.Command.{Command}
-use Rattle.vm_wire.specs.declared.response.Response.{Response}
 
 -- the pages of a process, by their numbers
 abbrev pub command_page : ℕ → ℕ
@@ -86,10 +85,6 @@ with_command parcel bytes = record parcel {
 -- the bytes that the device wrote to the second page
 abbrev pub reply_bytes : Finished → List ℕ
 reply_bytes f = take f.used (slice_index_or f.parcel.pages 1 no_page).bytes
-
--- the device's reply to a command, in a chain that came back
-abbrev pub reply_in : Command → Finished → Response
-reply_in c f = response_of c (reply_bytes f)
 
 -- what a chain that came back says
 abbrev pub reply_of : Finished → Reply

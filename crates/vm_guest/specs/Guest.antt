@@ -51,7 +51,7 @@ lines_at script n = slice_index_or script.processes n no_lines
 abbrev pub process_limit : ℕ
 process_limit = 16
 
--- A script of processes whose lines a reader gave.
+-- A script of at most 16 processes, each with what the lines that a reader gives have.
 pub record IsReadScript (script : ScriptLines) : Type 0 where
   pub few : length script.processes ≤ process_limit
   pub each : All IsReadProcess script.processes
@@ -101,7 +101,7 @@ abbrev pub begins_asked : GuestState → ℕ → Option Asked → Option Posting
 begins_asked g n None = None
 begins_asked g n (Some a) = begins g n a (way_by (process_at g n) a)
 
--- a process begins its next statement; none where there is none to begin
+-- a process begins its next statement; none where there is none to begin, or its call is not built
 abbrev pub issued : GuestState → ℕ → Option Posting
 issued g n = begins_asked g n (next (process_at g n))
 

@@ -1,5 +1,5 @@
 -- One process of the driver: its handles, how far its lines have come, and what a line's beginning and its answer do.
-use Rattle.std.specs.Prelude.{ℕ, ◌≡◌, ◌+◌, ◌<◌, ◌≤◌, Bool, true, false, not, ◌&&◌, ◌==◌, List, Option, Some, None, nat_lt, length, slice_index_or, slice_set, if◌then◌else◌}
+use Rattle.std.specs.Prelude.{ℕ, ◌≡◌, ◌+◌, ◌<◌, ◌≤◌, Bool, true, false, ◌&&◌, ◌==◌, List, Option, Some, None, is_some, length, slice_index_or, slice_set, if◌then◌else◌}
 use Rattle.v4l_const.specs.declared.model.Model.{Model}
 use Rattle.v4l_const.specs.declared.model.Model.TheVariants.{Capture}
 use Rattle.vm_local.specs.declared.reply.Reply.{Reply}
@@ -50,9 +50,14 @@ begun p = begun_by p.status p.answered
 abbrev pub current : ProcessState → Option Asked
 current p = asked_at p.statements p.answered
 
--- what the next statement asks, where none is on its way
+-- what is asked, where it is begun at once: a call that touches a memory's bytes takes a lease instead
+abbrev pub issuing : Option Asked → Option Asked
+issuing None = None
+issuing (Some a) = if touches_memory a.call then None else Some a
+
+-- what the next statement asks, where none is on its way and it is begun at once
 abbrev pub next : ProcessState → Option Asked
-next p = if is_at_rest p.status then current p else None
+next p = if is_at_rest p.status then issuing (current p) else None
 
 -- what the statement that is on its way asks
 abbrev pub crossing : ProcessState → Option Asked
@@ -62,14 +67,9 @@ crossing p = if is_at_rest p.status then None else current p
 abbrev pub is_done : ProcessState → Bool
 is_done p = is_at_rest p.status && (p.answered == length p.statements)
 
--- a call that touches no memory's bytes is begun at once
-abbrev pub is_issued : Option Asked → Bool
-is_issued None = false
-is_issued (Some a) = not (touches_memory a.call)
-
 -- its next statement may be begun
 abbrev pub can_issue : ProcessState → Bool
-can_issue p = is_issued (next p)
+can_issue p = is_some (next p)
 
 -- ---- its handles
 

@@ -12,7 +12,7 @@ ghost use Rattle.vm_script.specs.Reading.{IsReadProcess};
 ghost use Rattle.vm_script.specs.Script.{ProcessLines};
 ghost use Rattle.vm_guest.specs.Chain.{IsChain, Carries, reply_bytes};
 ghost use Rattle.vm_guest.specs.Asking.{statements_of};
-ghost use Rattle.vm_guest.specs.Process.{no_handle, handle_in, begun, next, crossing, is_issued, can_issue, is_done, way_in, crosses_in, handles_sent, handles_answered, Issues, CanPost, IsReplyTo, IsAnswered, IsFresh, fresh_at};
+ghost use Rattle.vm_guest.specs.Process.{no_handle, handle_in, begun, next, crossing, issuing, can_issue, is_done, way_in, crosses_in, handles_sent, handles_answered, Issues, CanPost, IsReplyTo, IsAnswered, IsFresh, fresh_at};
 ghost use Rattle.vm_guest.specs.Orderly.{IsOrderly};
 ghost use Rattle.vm_guest.specs.Caller.{counted, CanStart, Starts, CanReply, Logs};
 
@@ -112,13 +112,13 @@ fn make_statements(alloc: Global, lines: &[Line]) -> Result<Vec<Statement>, Memo
     Ok(statements)
 }
 
-// Whether what is asked, if something is, touches no memory's bytes.
-fn is_issued(asked: Option<Asked>) -> bool
-    ensures { result ≡ is_issued asked }
+// What is asked, where it is begun at once: a call that touches a memory's bytes takes a lease instead.
+fn issuing(asked: Option<Asked>) -> Option<Asked>
+    ensures { result ≡ issuing asked }
 {
     match asked {
-        Some(asked) => !touches_memory(&asked.call),
-        None => false,
+        Some(asked) if !touches_memory(&asked.call) => Some(asked),
+        _ => None,
     }
 }
 
@@ -210,10 +210,11 @@ impl Caller {
     pub fn can_issue(&self) -> bool
         ensures { result ≡ can_issue self.now }
     {
-        self.status == Status::AtRest && is_issued(asked_at(&self.statements, self.answered))
+        self.status == Status::AtRest
+            && issuing(asked_at(&self.statements, self.answered)).is_some()
     }
 
-    /// Begins the next statement. `Idle` exactly where there is none, or one is on its way.
+    /// Begins the next statement. `Idle` exactly where there is none, one is on its way, or it touches a memory's bytes.
     pub fn issue<L: Link>(&mut self, link: &mut L) -> Turn
         requires orderly { (m : AnyModel) × (lines : ProcessLines) × IsOrderly m lines self.old }
         requires room { CanPost (next self.old) self.old (queue_at Commands (L.queues link.old)) }
@@ -225,6 +226,9 @@ impl Caller {
         let Some(asked) = asked_at(&self.statements, self.answered) else {
             return Turn::Idle;
         };
+        if touches_memory(&asked.call) {
+            return Turn::Idle;
+        }
         let mut chain = self.chain.take().unwrap();
         if start(&mut self.handles, &asked, &mut chain) {
             link.post(QueueId::Command, chain);
