@@ -16,7 +16,7 @@ use Rattle.vm_guest.specs.Process.{ProcessState, is_at_rest, begun, current, nex
 use Rattle.vm_guest.specs.Guest.{GuestState, no_process, process_in, process_at, lines_at}
 use Rattle.vm_guest.specs.Orderly.{IsOrderly}
 use Rattle.vm_guest.proofs.OrderlyLemmas.{begun_at_rest}
-use Rattle.vm_world.proofs.TurnLemmas.{current_some, next_may}
+use Rattle.vm_world.proofs.TurnLemmas.{current_some, next_current}
 use Rattle.vm_world.specs.World.{WorldState, IsDone, issues_from, is_some_of, listed, enabled, is_enabled}
 use Rattle.vm_world.specs.Sound.{crossing_count, IsSoundOf}
 use Rattle.vm_world.specs.declared.step.Step.{Step}
@@ -141,9 +141,8 @@ rests_where p none = known p.status refl
 -- a process at rest that may begin no line is done
 done_where_rests : (m : Model) (lines : ProcessLines) (p : ProcessState) → IsOrderly m lines p → p.status ≡ AtRest → can_issue p ≡ false → is_done p ≡ true
 done_where_rests m lines p orderly rests stuck =
-    let is_next : next p ≡ current p = ap (λ s. if is_at_rest s then current p else None) rests in
     let stuck' : nat_lt p.answered (length p.statements) ≡ false =
-    sym (current_some m lines p orderly) ∙ ap is_some (sym is_next) ∙ next_may m lines p orderly ∙ stuck in
+    sym (current_some m lines p orderly) ∙ ap is_some (sym (next_current m lines p orderly rests)) ∙ stuck in
     let past : length p.statements ≤ p.answered = ltb-false p.answered (length p.statements) stuck' in
     let all : length p.statements ≡ length lines.lines = ap length orderly.statements ∙ length-map lines.lines statement_of in
     let within : begun p ≤ length lines.lines = orderly.within in

@@ -26,7 +26,7 @@ use Rattle.vm_world.specs.declared.step.Step.TheVariants.{Issue, Execute, Collec
 use Rattle.vm_world.specs.Sound.{IsSoundOf, IsSound}
 use Rattle.vm_world.proofs.OpeningLemmas.{sums_alike, opening_world, sound_opening}
 use Rattle.vm_world.proofs.EnabledLemmas.{may_come}
-use Rattle.vm_world.proofs.TurnLemmas.{may_begin, falls_issue, falls_collect}
+use Rattle.vm_world.proofs.TurnLemmas.{falls_issue, falls_collect}
 use Rattle.vm_world.proofs.WorldLemmas.{IsBegun, begun_is, sound_posting, sound_finishing, sound_collected}
 
 -- the driver stays one of the script where a process begins a statement
@@ -83,7 +83,7 @@ issued_some g n (Some a) posting does = refl
 
 pub step_may : (script : ScriptLines) (w w' : WorldState) (s : Step) → IsSoundOf script w → Steps w s w' → is_enabled w s ≡ true
 step_may script w w' (Issue n) sound does =
-    sym (may_begin script w.guest n sound.driver) ∙ issued_some w.guest n (next (process_at w.guest n)) does.0 does.1
+    issued_some w.guest n (next (process_at w.guest n)) does.0 does.1
 step_may script w w' Execute sound does = by_requests w.requests does
   where
     by_requests : (rs : List Request) → Executes w rs w' → is_some_of rs ≡ true

@@ -14,3 +14,4 @@ pub mod OpeningLemmas
 pub mod EnabledLemmas
 pub mod LawLemmas
 pub mod GrowLemmas
+pub mod BoundLemmas

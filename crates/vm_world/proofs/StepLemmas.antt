@@ -8,7 +8,7 @@ use Rattle.vm_chain.specs.Chain.{writable_bytes}
 use Rattle.vm_chain.specs.declared.desc.Desc.{Desc}
 use Rattle.vm_chain.specs.declared.fault.ChainFault.{ChainFault}
 use Rattle.vm_link.specs.Queue.{Queue, Queues, queue_at, with_queue, posted, collected, free_count, rest_of}
-use Rattle.vm_link.specs.declared.link.QueueId.TheVariants.{Command as Commands}
+use Rattle.vm_link.specs.declared.link.QueueId.TheVariants.{Command as Commands, Event as Events}
 use Rattle.vm_link.specs.declared.chains.DoneChain.{DoneChain}
 use Rattle.vm_link.specs.declared.chains.OutChain.{OutChain}
 use Rattle.vm_link.specs.declared.link.Turn.{Turn}
@@ -39,7 +39,7 @@ use Rattle.vm_world.specs.World.{is_enabled, turn_of}
 use Rattle.vm_world.specs.declared.step.Step.{Step}
 use Rattle.vm_world.specs.declared.step.Step.TheVariants.{Issue, Execute, Collect}
 use Rattle.vm_world.specs.Sound.{IsSoundOf, requests_of, replies_of}
-use Rattle.vm_world.specs.Carried.{world_of, CarriesCommand, IsBack, IsCarried}
+use Rattle.vm_world.specs.Carried.{IsEmpty, world_of, CarriesCommand, IsBack, IsCarried}
 use Rattle.vm_world.proofs.ChainLemmas.{request_posted, served_posted, brought}
 use Rattle.vm_world.proofs.WorldLemmas.{begun_is, command_fits, reply_fits, room_to_open, sound_posting, sound_finishing, sound_collected, brought_to, IsBroughtTo, crossing_most, judged_same}
 
@@ -118,6 +118,28 @@ issue_step script g host queues queues' turn g' n sound carried does = by_next (
         let G : GuestState → Type 0 = λ x. IsStep Idle w (Issue n) (world_of script x host q) q in
         subst T (sym issues.0) (subst Q (sym same) (subst G (sym after) (record { turns = refl; carried = carried })))
     by_next (Some a) is issues = by_way a (way_by p a) is refl issues.0 issues.1
+
+-- and the queue of events stays
+pub events_issued : (n : ℕ) (g g' : GuestState) (queues queues' : Queues) (turn : Turn) → IssuesAt n g queues turn g' queues' → queue_at Events queues' ≡ queue_at Events queues
+events_issued n g g' queues queues' turn does = by_next (next (process_at g n)) does.issues
+  where
+    p : ProcessState
+    p = process_at g n
+
+    by_way : (a : Asked) (way : Way) → Begins way a p queues does.process queues' → queue_at Events queues' ≡ queue_at Events queues
+    by_way a (Crosses c) begun = ap (queue_at Events) begun.3
+    by_way a AnsweredHere begun = ap (queue_at Events) begun.1
+    by_way a Waits begun = absurd begun
+    by_way a TouchesMemory begun = absurd begun
+    by_way a NotBuilt begun = absurd begun
+
+    by_next : (o : Option Asked) → Issues o p queues turn does.process queues' → queue_at Events queues' ≡ queue_at Events queues
+    by_next None issues = ap (queue_at Events) issues.2
+    by_next (Some a) issues = by_way a (way_by p a) issues.1
+
+-- nothing is on a queue that stayed
+pub still_empty : (q q' : Queue) → q' ≡ q → IsEmpty q → IsEmpty q'
+still_empty q q' same empty = subst IsEmpty (sym same) empty
 
 -- ---- the device does a request
 

@@ -24,7 +24,7 @@ use Rattle.vm_guest.specs.declared.asked.Statement.{Statement}
 use Rattle.vm_guest.specs.declared.status.Status.{Status}
 use Rattle.vm_guest.specs.declared.status.Status.TheVariants.{AtRest, Crossing}
 use Rattle.vm_guest.specs.Asking.{asked_by, asked_at, statements_of}
-use Rattle.vm_guest.specs.Process.{ProcessState, is_at_rest, begun, current, next, crossing, is_issued, can_issue, crosses_by, sent, answered_here, replied, Issues}
+use Rattle.vm_guest.specs.Process.{ProcessState, is_at_rest, begun, current, next, crossing, issuing, can_issue, crosses_by, sent, answered_here, replied, Issues}
 use Rattle.vm_guest.specs.Orderly.{IsOrderly}
 use Rattle.vm_guest.specs.Guest.{GuestState, no_process, process_at, with_process, lines_at, IsDriver, Posting, issued, IssuesAt, Collected}
 use Rattle.vm_guest.proofs.LinesLemmas.{some_asked}
@@ -79,32 +79,25 @@ current_some m lines p orderly = elim (cases_lt p.answered (length p.statements)
       ap is_some (past_none p.statements p.answered (omega (arith, past))) ∙ sym no
 ]
 
--- and none of them touches a memory's bytes
-pub next_may : (m : Model) (lines : ProcessLines) (p : ProcessState) → IsOrderly m lines p → is_some (next p) ≡ can_issue p
-next_may m lines p orderly = by_next (next p) refl
+-- and none of them touches a memory's bytes, so that it is next where the process is at rest
+pub next_current : (m : Model) (lines : ProcessLines) (p : ProcessState) → IsOrderly m lines p → p.status ≡ AtRest → next p ≡ current p
+next_current m lines p orderly rests = ap (λ s. if is_at_rest s then issuing (current p) else None) rests ∙ by_current (current p) refl
   where
-    by_next : (o : Option Asked) → next p ≡ o → is_some o ≡ is_issued o
-    by_next None is = refl
-    by_next (Some a) is = sym (ap not (built_untouched a.call (asks_read m lines p a orderly (next_is p a is).1).2))
+    by_current : (o : Option Asked) → current p ≡ o → issuing o ≡ o
+    by_current None is = refl
+    by_current (Some a) is = ap (λ t. if t then None else Some a) (built_untouched a.call (asks_read m lines p a orderly is).2)
 
 turn_next : (o : Option Asked) (p p' : ProcessState) (queues queues' : Queues) (turn : Turn) → Issues o p queues turn p' queues' → turn ≡ turn_by (is_some o)
 turn_next None p p' queues queues' turn issues = issues.0
 turn_next (Some a) p p' queues queues' turn issues = issues.0
 
--- the process at a place has a next statement exactly where it may begin one
-pub may_begin : (script : ScriptLines) (g : GuestState) (n : ℕ) → IsDriver script g → is_some (next (process_at g n)) ≡ can_issue (process_at g n)
-may_begin script g n driver = elim (cases_lt n (length g.processes)) [
-  | inl within ↦ next_may script.model (lines_at script n) (process_at g n) (driver.orderly n within)
-  | inr past ↦ (let P : ProcessState → Type 0 = λ p. is_some (next p) ≡ can_issue p in subst P (sym (process_past g.processes n (omega (arith, past)))) refl)
-]
-
 pub issue_turn : (script : ScriptLines) (g g' : GuestState) (n : ℕ) (queues queues' : Queues) (turn : Turn) → IsDriver script g → IssuesAt n g queues turn g' queues' → turn ≡ turn_by (can_issue (process_at g n))
 issue_turn script g g' n queues queues' turn driver does =
-    turn_next (next (process_at g n)) (process_at g n) does.process queues queues' turn does.issues ∙ ap turn_by (may_begin script g n driver)
+    turn_next (next (process_at g n)) (process_at g n) does.process queues queues' turn does.issues
 
 -- ---- fewer steps are left
 
-weight_small : (c : Command) → weight_of c ≤ 9
+pub weight_small : (c : Command) → weight_of c ≤ 9
 weight_small OpenSession = omega arith
 weight_small (CloseSession session) = omega arith
 weight_small (Ioctl session QBuf payload) = omega arith

@@ -166,7 +166,7 @@ pub record IsSoundProcess (p : ProcessState) (row : List Seat) (rs : List Reques
   pub ahead : (h : ℕ) → h < length p.handles
       → Ahead (handle_at p h) (stage_on h (crossing p) rs qs) (slice_index_or row h no_seat)
 
--- The slices of a process that is at rest.
+-- No handle of the process has a call out, and each has its seat.
 pub record IsResting (p : ProcessState) (row : List Seat) : Type 0 where
   pub named : length row ≡ length p.handles
   pub ahead : (h : ℕ) → h < length p.handles → Ahead (handle_at p h) Resting (slice_index_or row h no_seat)

@@ -1,6 +1,6 @@
 //! Laws of the world's steps, over plain data: they hold of the definitions alone.
 
-ghost use Rattle.std.specs.Prelude.{◌≡◌, ◌<◌, ◌≤◌, ◌+◌, ◌*◌, ◌++◌, ◌↔◌, ℕ, true, List, [], ◌∷◌, Contains, Some, None, Ok, length, slice_index_or, slice_set};
+ghost use Rattle.std.specs.Prelude.{◌≡◌, ◌<◌, ◌≤◌, ◌+◌, ◌*◌, ◌++◌, ◌↔◌, ◌⊎◌, ℕ, true, List, [], ◌∷◌, Contains, Some, None, Ok, length, slice_index_or, slice_set};
 ghost use Rattle.vm_local.specs.Log.{IsLegal};
 ghost use Rattle.vm_local.specs.declared.entry.Entry.{Entry};
 ghost use Rattle.vm_local.specs.declared.reply.Reply.{Reply as LocalReply};
@@ -15,9 +15,11 @@ ghost use Rattle.vm_wire.specs.declared.command.Command.{Command};
 ghost use Rattle.vm_script.specs.Script.{ScriptLines};
 ghost use Rattle.vm_guest.specs.declared.asked.Asked.{Asked};
 ghost use Rattle.vm_guest.specs.Process.{ProcessState, next, crossing, handle_at, way_by, sent, answered_here, replied};
-ghost use Rattle.vm_guest.specs.Guest.{IsReadScript};
-ghost use Rattle.vm_world.specs.World.{WorldState, IsOpening, Steps, Leads, enabled, is_enabled, log_of, left_of, statement_count};
+ghost use Rattle.vm_guest.specs.Guest.{process_at, IsReadScript};
+ghost use Rattle.vm_guest.specs.declared.status.Status.TheVariants.{Crossing};
+ghost use Rattle.vm_world.specs.World.{WorldState, IsOpening, IsDone, Steps, Leads, enabled, is_enabled, log_of, left_of, statement_count};
 ghost use Rattle.vm_world.specs.declared.step.Step.{Step};
+ghost use Rattle.vm_world.specs.declared.step.Step.TheVariants.{Execute, Collect};
 ghost use Rattle.vm_world.specs.Sound.{Seat, no_seat, seat_of, IsOut, IsResting, IsSoundProcess, IsSound};
 
 /// A step leads from a sound world to a sound one, and so does a list of steps.
@@ -38,11 +40,20 @@ pub fn steps_may_come_next_and_leave_fewer()
 {}
 
 /// The world before the first line of a script that was read is sound, and 12 steps are left of it for each statement. So
-/// no run has more.
-pub fn a_run_has_12_steps_a_statement()
+/// no run has more; and of no sound world are more left.
+pub fn a_run_has_at_most_12_steps_a_statement()
     ensures sound { (script : ScriptLines) → (w : WorldState) → IsReadScript script → IsOpening script w → IsSound w }
     ensures left { (script : ScriptLines) → (w : WorldState) → IsOpening script w → left_of w ≡ 12 * statement_count script }
     ensures few { (script : ScriptLines) → (w : WorldState) → (ss : List Step) → (last : WorldState) → IsReadScript script → IsOpening script w → Leads w ss last → length ss ≤ 12 * statement_count script }
+    ensures bound { (w : WorldState) → IsSound w → left_of w ≤ 12 * statement_count w.script }
+{}
+
+/// No run stalls: in a sound world of which a line isn't answered, some step may come next; and where a statement was begun
+/// and isn't answered, one of the device or the driver's collecting.
+pub fn no_run_stalls()
+    ensures some { (w : WorldState) → IsSound w → (¬ IsDone w) → 0 < length (enabled w) }
+    ensures begun { (w : WorldState) → (n : ℕ) → IsSound w → (process_at w.guest n).status ≡ Crossing →
+        (is_enabled w Execute ≡ true) ⊎ (is_enabled w Collect ≡ true) }
 {}
 
 /// What a log has stays there: a step at most appends to it.

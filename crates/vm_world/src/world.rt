@@ -29,16 +29,16 @@ pub struct World<L: Link> {
 
 impl<L: Link> Model for World<L> {
     ghost use Rattle.vm_link.specs.Queue.{queue_at};
-    ghost use Rattle.vm_link.specs.declared.link.QueueId.TheVariants.{Command as Commands};
+    ghost use Rattle.vm_link.specs.declared.link.QueueId.TheVariants.{Command as Commands, Event as Events};
     ghost use Rattle.vm_world.specs.World.{WorldState};
     ghost use Rattle.vm_world.specs.Sound.{IsSound};
-    ghost use Rattle.vm_world.specs.Carried.{world_of, IsCarried};
+    ghost use Rattle.vm_world.specs.Carried.{IsEmpty, world_of, IsCarried};
 
     ghost Value = { WorldState };
 
     ghost view = { λ w. world_of w.script w.guest w.host (queue_at Commands (L.queues w.link)) };
 
-    ghost invariant = { λ w. IsSound (world_of w.script w.guest w.host (queue_at Commands (L.queues w.link))) × IsCarried (queue_at Commands (L.queues w.link)) };
+    ghost invariant = { λ w. IsSound (world_of w.script w.guest w.host (queue_at Commands (L.queues w.link))) × IsCarried (queue_at Commands (L.queues w.link)) × IsEmpty (queue_at Events (L.queues w.link)) };
 }
 
 // How many handles a script has.
@@ -189,9 +189,10 @@ impl<L: Link> World<L> {
         &self.host
     }
 
-    /// The link.
+    /// The link. Nothing is on its queue of events so far.
     pub fn link(&self) -> &L
-        ensures { self.now ≡ world_of self.now.script self.now.guest self.now.host (queue_at Commands (L.queues result.now)) }
+        ensures commands { self.now ≡ world_of self.now.script self.now.guest self.now.host (queue_at Commands (L.queues result.now)) }
+        ensures events { IsEmpty (queue_at Events (L.queues result.now)) }
     {
         &self.link
     }

@@ -1,13 +1,13 @@
 use Rattle.std.proofs.Common.{◌≡◌, ◌<◌, sym, ap, ◌∙◌, subst}
 use Rattle.vm_link.specs.Queue.{queue_at}
-use Rattle.vm_link.specs.declared.link.QueueId.TheVariants.{Command}
+use Rattle.vm_link.specs.declared.link.QueueId.TheVariants.{Command, Event}
 use Rattle.vm_link.specs.declared.link.Turn.{Turn}
 use Rattle.vm_link.specs.declared.link.Turn.TheVariants.{Did}
 use Rattle.vm_world.specs.World.{WorldState, Turns, left_of, turn_of}
 use Rattle.vm_world.specs.declared.step.Step.{Step}
 use Rattle.vm_world.specs.declared.step.Step.TheVariants.{Issue, Execute, Collect}
 use Rattle.vm_world.specs.Carried.{world_of}
-use Rattle.vm_world.proofs.StepLemmas.{may_post, may_execute, may_collect, issue_step, execute_step, collected_over}
+use Rattle.vm_world.proofs.StepLemmas.{may_post, may_execute, may_collect, issue_step, events_issued, execute_step, collected_over, still_empty}
 use Rattle.vm_world.proofs.TurnLemmas.{sound_issue, sound_execute, sound_collect, issue_turn, falls_issue, falls_collect}
 use Rattle.vm_world.proofs.world.World.step.Goals as goal
 
@@ -17,8 +17,11 @@ issue-requires g c = may_post c.self.inside.script c.self.inside.guest c.self.in
 pub invariant_of-self : goal.invariant_of-self
 invariant_of-self g c =
     let is = issue_step c.self.inside.script c.self.inside.guest c.self.inside.host (g.L.Link.queues c.self.inside.link) (g.L.Link.queues c.issue.new.link) c.issue.result c.issue.new.self c.in-Issue.p
-    c.self.invariant.0 c.self.invariant.1 c.issue.ensures.issues in
-    (sound_issue c.self.inside.script _ _ c.in-Issue.p c.issue.result c.self.invariant.0 is.turns (c.issue.ensures.driver c.self.inside.script c.self.invariant.0.driver), is.carried)
+    c.self.invariant.0 c.self.invariant.1 c.issue.ensures.issues in (
+      sound_issue c.self.inside.script _ _ c.in-Issue.p c.issue.result c.self.invariant.0 is.turns (c.issue.ensures.driver c.self.inside.script c.self.invariant.0.driver),
+      is.carried,
+      still_empty (queue_at Event (g.L.Link.queues c.self.inside.link)) _ (events_issued c.in-Issue.p c.self.inside.guest c.issue.new.self (g.L.Link.queues c.self.inside.link) (g.L.Link.queues c.issue.new.link) c.issue.result c.issue.ensures.issues) c.self.invariant.2,
+    )
 
 pub execute-requires : goal.execute-requires
 execute-requires g c = may_execute c.self.inside.script c.self.inside.guest c.self.inside.host (queue_at Command (g.L.Link.queues c.self.inside.link)) c.self.invariant.0 c.self.invariant.1
@@ -26,16 +29,22 @@ execute-requires g c = may_execute c.self.inside.script c.self.inside.guest c.se
 pub invariant_of-self-in-Execute : goal.invariant_of-self-in-Execute
 invariant_of-self-in-Execute g c =
     let is = execute_step c.self.inside.script c.self.inside.guest c.self.inside.host (queue_at Command (g.L.Link.queues c.self.inside.link)) (queue_at Command (g.L.Link.queues c.execute.new.link)) c.execute.result c.execute.new.self
-    c.self.invariant.0 c.self.invariant.1 c.execute.ensures.executes in
-    (sound_execute c.self.inside.script _ _ c.execute.result c.self.invariant.0 is.turns, is.carried)
+    c.self.invariant.0 c.self.invariant.1 c.execute.ensures.executes in (
+      sound_execute c.self.inside.script _ _ c.execute.result c.self.invariant.0 is.turns,
+      is.carried,
+      still_empty (queue_at Event (g.L.Link.queues c.self.inside.link)) _ c.execute.ensures.events c.self.invariant.2,
+    )
 
 pub collect-requires : goal.collect-requires
 collect-requires g c = may_collect c.self.inside.script c.self.inside.guest c.self.inside.host (queue_at Command (g.L.Link.queues c.self.inside.link)) c.self.invariant.0 c.self.invariant.1
 
 pub invariant_of-self-in-Collect : goal.invariant_of-self-in-Collect
 invariant_of-self-in-Collect g c =
-    let is = collected_over c.self.inside.script c.self.inside.guest c.self.inside.host (g.L.Link.queues c.self.inside.link) (g.L.Link.queues c.collect.new.link) c.collect.result c.collect.new.self c.self.invariant.1 c.collect.ensures.collects c.collect.ensures.queues in
-    (sound_collect c.self.inside.script _ _ c.collect.result c.self.invariant.0 is.turns (c.collect.ensures.driver c.self.inside.script c.self.invariant.0.driver), is.carried)
+    let is = collected_over c.self.inside.script c.self.inside.guest c.self.inside.host (g.L.Link.queues c.self.inside.link) (g.L.Link.queues c.collect.new.link) c.collect.result c.collect.new.self c.self.invariant.1 c.collect.ensures.collects c.collect.ensures.queues in (
+      sound_collect c.self.inside.script _ _ c.collect.result c.self.invariant.0 is.turns (c.collect.ensures.driver c.self.inside.script c.self.invariant.0.driver),
+      is.carried,
+      still_empty (queue_at Event (g.L.Link.queues c.self.inside.link)) _ (ap (queue_at Event) c.collect.ensures.queues) c.self.invariant.2,
+    )
 
 pub returns-in-Issue-clause-turn : goal.returns-in-Issue-clause-turn
 returns-in-Issue-clause-turn g c =
