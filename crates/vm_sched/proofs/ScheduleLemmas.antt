@@ -2,7 +2,7 @@
 use Rattle.std.proofs.Common.{◌≡◌, ℕ, ◌<◌, Bool, true, false, List, [], ◌∷◌, Option, Some, IsSome, IfSome, IsTrue, ◌↔◌, length, slice_get, refl, sym, ap, ◌∙◌, subst, arith}
 use Rattle.std.proofs.lemmas.Option.{slice_get-get_or}
 use Rattle.vm_link.specs.declared.link.Turn.{Turn}
-use Rattle.vm_world.specs.World.{WorldState, IsDone, enabled, is_enabled, turn_by, turn_of, Turns, Steps}
+use Rattle.vm_world.specs.World.{WorldState, IsDone, enabled, is_enabled, turn_by, turn_of, Turns, Steps, Leads}
 use Rattle.vm_world.specs.declared.step.Step.TheVariants.{Execute}
 use Rattle.vm_world.specs.declared.step.Step.{Step}
 use Rattle.vm_sched.specs.Schedule.{next_state, place_chosen, Chooses, Schedules, IsScheduled}
@@ -44,3 +44,9 @@ does w next o s turn may is turned turns =
 -- where it isn't done, a line isn't answered
 pub not_done : (w : WorldState) (b : Bool) → (IsTrue b ↔ IsDone w) → b ≡ false → IsDone w → ⊥
 not_done w b tells is done = absurd (let yes : b ≡ true = tells.1 done in let no : true ≡ false = sym yes ∙ is in cc)
+
+-- ---- the steps of a schedule
+
+pub schedule_leads : (w last : WorldState) (ss : List Step) (x : ℕ) → Schedules ss w x last → Leads w ss last
+schedule_leads w last [] x runs = runs.1
+schedule_leads w last (s ∷ ss) x runs = (runs.2.0, runs.2.1, schedule_leads runs.2.0 last ss (next_state x) runs.2.2)

@@ -3,6 +3,8 @@
 //! Begin with `run_schedule`. Its main definition is the run that a seed gives, in `specs/Schedule.antt`.
 #![tactic(auto)]
 
+mod laws;
 mod schedule;
 
+pub use laws::schedules_lead;
 pub use schedule::run_schedule;
