@@ -2,11 +2,15 @@
 //! handle sends.
 #![tactic(auto)]
 
+mod buffers;
 mod calls;
 mod formats;
+mod frames;
 mod inputs;
 mod laws;
+mod lists;
 mod queue;
+mod queues;
 mod requests;
 mod session;
 
