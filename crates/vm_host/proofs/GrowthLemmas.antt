@@ -17,7 +17,7 @@ use Rattle.vm_wire.specs.declared.command.Command.TheVariants.{OpenSession, Clos
 use Rattle.vm_wire.specs.declared.command.CmdFault.{CmdFault}
 use Rattle.vm_wire.specs.declared.response.Response.TheVariants.{Closed}
 use Rattle.vm_host.specs.Sessions.{HostState}
-use Rattle.vm_host.specs.Host.{Answer, refused, session_of, without_session, called, in_session, performed, answer_to, chain_in, asked_by, Sent, AnswersIf, Serves, Executes}
+use Rattle.vm_host.specs.Host.{Answer, session_of, called, in_session, closed, performed, answer_to, chain_in, asked_by, Sent, AnswersIf, Serves, Executes}
 
 -- as many sessions may be opened as before, and at most one is opened
 abbrev pub GrowsByOne : HostState → HostState → Type 0
@@ -30,19 +30,19 @@ called_grows : (h : HostState) (id : ℕ) (outcome : Result IoctlAnswer Errno) �
 called_grows h id (Ok a) = (refl, omega (arith, length-set h.sessions id (Some a.next)))
 called_grows h id (Err errno) = stays h
 
-in_session_grows : (h : HostState) (id : ℕ) (session : Option Session) (code : IoctlCode) (payload : List ℕ) → GrowsByOne h (in_session h id session code payload).host
-in_session_grows h id None code payload = stays h
-in_session_grows h id (Some s) code payload = called_grows h id (ioctl_outcome s code payload)
+in_session_grows : (memory : Bool) (h : HostState) (id : ℕ) (session : Option Session) (code : IoctlCode) (payload : List ℕ) → GrowsByOne h (in_session memory h id session code payload).host
+in_session_grows memory h id None code payload = stays h
+in_session_grows memory h id (Some s) code payload = called_grows h id (ioctl_outcome memory s code payload)
+
+closed_grows : (h : HostState) (id : ℕ) (session : Option Session) → GrowsByOne h (closed h id session).host
+closed_grows h id None = stays h
+closed_grows h id (Some s) = (refl, omega (arith, length-set h.sessions id None))
 
 performed_grows : (memory : Bool) (h : HostState) (c : Command) → GrowsByOne h (performed memory h c).host
 performed_grows true h OpenSession = (refl, omega (arith, length-append h.sessions (Some (opening_session h.model (length h.sessions)) ∷ [])))
 performed_grows false h OpenSession = stays h
-performed_grows memory h (CloseSession id) =
-    elim (is_some (session_of h id)) as (λ b. GrowsByOne h (if b then (record { response = Closed; host = without_session h id }) else refused Ebadf h).host) [
-      | true ↦ (refl, omega (arith, length-set h.sessions id None))
-      | false ↦ stays h
-    ]
-performed_grows memory h (Ioctl id code payload) = in_session_grows h id (session_of h id) code payload
+performed_grows memory h (CloseSession id) = closed_grows h id (session_of h id)
+performed_grows memory h (Ioctl id code payload) = in_session_grows memory h id (session_of h id) code payload
 performed_grows memory h (Map id writable offset) = stays h
 performed_grows memory h (Unmap addr) = stays h
 
@@ -57,7 +57,7 @@ answered_grows : (few : Bool) (descs : List Desc) (p : Parcel) (h h' : HostState
 answered_grows true descs p h h' sent answers = unchanged h h' answers.1
 answered_grows false descs p h h' sent answers =
     let P : Answer → Type 0 = λ a. GrowsByOne h a.host in
-    subst P answers.1.1 (answer_grows answers.1.0 h (asked_by descs p.pages))
+    subst P answers.2.1 (answer_grows answers.2.0 h (asked_by descs p.pages))
 
 served_grows : (o : Result (List Desc) ChainFault) (p : Parcel) (h h' : HostState) (sent : Sent) → Serves o p h sent h' → GrowsByOne h h'
 served_grows (Err fault) p h h' sent serves = unchanged h h' serves.1

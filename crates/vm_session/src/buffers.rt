@@ -10,6 +10,7 @@ use crate::Session;
 use crate::frames::{frame_tag, fresh_frames};
 use crate::lists::put_back;
 use crate::queues::{find_in, is_streaming_at, kind_at, length_at, renew_at, stop_all};
+use std::collections::VecDeque;
 use v4l_const::{Errno, MEMORY_MMAP, MEMORY_USERPTR};
 use v4l_format::sizeimage;
 use v4l_rules::place_in;
@@ -96,6 +97,7 @@ impl Session {
     }
 
     /// Refuses a request for buffers of a type or a memory kind that there isn't, or for some while the queue streams.
+    #[tactic(auto, unfolding(crate::specs::Session::reqbufs_row))]
     fn check_reqbufs(&self, t: u32, memory: u32, count: u32) -> Result<(), Errno>
         ensures ok { OnOk result (first_refusal (reqbufs_row self.now t memory count).refusals ≡ None) }
         ensures err { IfErr result (λ e. Refuses (reqbufs_row self.now t memory count) e) }
@@ -113,11 +115,11 @@ impl Session {
 
     /// The fresh memories of so many buffers of this memory kind for the queue of type `t`. Want of memory comes only where
     /// one is asked for.
-    fn fresh_memories(&self, t: u32, memory: u32, count: u32) -> Result<Vec<Held>, Memory>
+    fn fresh_memories(&self, t: u32, memory: u32, count: u32) -> Result<VecDeque<Held>, Memory>
         requires frames { self.now.made < 2 ^ 32 - 32 }
         requires count { count ≤ 32 }
         ensures ok { IfOk result (λ v. v.items ≡ fresh_memories self.now t memory count) }
-        ensures few { IfOk result (λ v. vec_len v ≤ 32) }
+        ensures few { IfOk result (λ v. length v.items ≤ 32) }
         ensures err { IsErr result → 0 < count }
     {
         let first = frame_tag(self.id, self.made);

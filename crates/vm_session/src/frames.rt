@@ -1,8 +1,9 @@
 //! The frames of a session: how they are made, and from which offsets they are mapped.
-ghost use Rattle.std.specs.Prelude.{◌≡◌, ◌+◌, ◌^◌, ◌<◌, ◌≤◌, IfOk, IsErr, length, vec_len};
+ghost use Rattle.std.specs.Prelude.{◌≡◌, ◌+◌, ◌^◌, ◌<◌, ◌≤◌, IfOk, IsErr, length};
 ghost use Rattle.vm_session.specs.Session.{frame_tag, fresh_frames, frames_from, frame_at};
 
 use std::alloc::Global;
+use std::collections::VecDeque;
 use vm_frame::{Frame, Held, Mem};
 use vm_mem::Memory;
 use vm_wire::buffer_offset;
@@ -23,16 +24,16 @@ pub fn fresh_frames(
     first: u64,
     size: u32,
     count: u32,
-) -> Result<Vec<Held>, Memory>
+) -> Result<VecDeque<Held>, Memory>
     requires { first + count ≤ 2 ^ 64 }
     ensures frames { IfOk result (λ v. v.items ≡ fresh_frames t first size count) }
-    ensures len { IfOk result (λ v. vec_len v ≡ count) }
+    ensures len { IfOk result (λ v. length v.items ≡ count) }
     ensures err { IsErr result → 0 < count }
 {
-    let mut frames = Vec::new(alloc);
+    let mut frames = VecDeque::new(alloc);
     for index in 0..count {
         let frame = Frame::make_zero(alloc, first + u64::from(index), size)?;
-        frames.push(Held {
+        frames.push_back(Held {
             queue: t,
             index,
             mem: Mem::OfFrame(frame),

@@ -1,6 +1,7 @@
 //! What is asked of lists.
-ghost use Rattle.std.specs.Prelude.{◌≡◌, ◌+◌, ◌≤◌, ◌++◌, replicate, vec_len, vec_capacity};
+ghost use Rattle.std.specs.Prelude.{◌≡◌, ◌+◌, ◌≤◌, ◌++◌, length, replicate, vec_len, vec_capacity};
 
+use std::collections::VecDeque;
 use vm_frame::Held;
 
 /// Makes a list one of so many times a value. There is room for them.
@@ -16,12 +17,12 @@ pub fn set_all(numbers: &mut Vec<u32>, count: u32, value: u32)
 }
 
 /// Puts memories behind what `back` has, which has room for them.
-pub fn put_back(fresh: Vec<Held>, back: &mut Vec<Held>)
-    requires { vec_len back.old + vec_len fresh ≤ vec_capacity back.old }
+pub fn put_back(mut fresh: VecDeque<Held>, back: &mut Vec<Held>)
+    requires { vec_len back.old + length fresh.items ≤ vec_capacity back.old }
     ensures memories { back.new.items ≡ back.old.items ++ fresh.items }
     ensures room { vec_capacity back.new ≡ vec_capacity back.old }
 {
-    for held in fresh {
+    'frames: while let Some(held) = fresh.pop_front() {
         back.push_reserved(held);
     }
 }
