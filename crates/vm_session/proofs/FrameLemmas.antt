@@ -67,16 +67,22 @@ found_behind offset frames types i found within before is none =
 -- ---- stopping queue by queue
 
 -- a queue that isn't stopped yet is as it was
-pub still_there : (qs : List SessionQueue) (i : ℕ) (q : SessionQueue) → i < length qs → q ≡ get_or (map stopped_queue (take i qs) ++ drop i qs) i q → q ≡ get_or qs i opening_queue
-still_there [] i q within is = absurd (omega (arith, within))
-still_there (x ∷ xs) zero q within is = is
-still_there (x ∷ xs) (suc i) q within is = still_there xs i q (omega (arith, within)) is
+pub still_there : (qs : List SessionQueue) (i : ℕ) (d : SessionQueue) → i < length qs → get_or (map stopped_queue (take i qs) ++ drop i qs) i d ≡ get_or qs i opening_queue
+still_there [] i d within = absurd (omega (arith, within))
+still_there (x ∷ xs) zero d within = refl
+still_there (x ∷ xs) (suc i) d within = still_there xs i d (omega (arith, within))
+
+stopped_next : (qs : List SessionQueue) (i : ℕ) (q q' : SessionQueue) → i < length qs → q ≡ get_or qs i opening_queue → q' ≡ stopped_queue q
+    → set (map stopped_queue (take i qs) ++ drop i qs) i q' ≡ map stopped_queue (take (suc i) qs) ++ drop (suc i) qs
+stopped_next [] i q q' within is stops = absurd (omega (arith, within))
+stopped_next (x ∷ xs) zero q q' within is stops = ap (λ y. y ∷ xs) (stops ∙ ap stopped_queue is)
+stopped_next (x ∷ xs) (suc i) q q' within is stops = ap (λ ys. stopped_queue x ∷ ys) (stopped_next xs i q q' (omega (arith, within)) is stops)
 
 pub stopped_more : (qs : List SessionQueue) (i : ℕ) (q q' : SessionQueue) → i < length qs → q ≡ get_or qs i opening_queue → q' ≡ stopped_queue q
     → set (map stopped_queue (take i qs) ++ drop i qs) i q' ≡ map stopped_queue (take (i + 1) qs) ++ drop (i + 1) qs
-stopped_more [] i q q' within is stops = absurd (omega (arith, within))
-stopped_more (x ∷ xs) zero q q' within is stops = ap (λ y. y ∷ xs) (stops ∙ ap stopped_queue is)
-stopped_more (x ∷ xs) (suc i) q q' within is stops = ap (λ ys. stopped_queue x ∷ ys) (stopped_more xs i q q' (omega (arith, within)) is stops)
+stopped_more qs i q q' within is stops =
+    let next : suc i ≡ i + 1 = omega arith in
+    stopped_next qs i q q' within is stops ∙ ap (λ n. map stopped_queue (take n qs) ++ drop n qs) next
 
 -- the memories of one queue more
 pub one_more : (qs : List SessionQueue) (i : ℕ) (q : SessionQueue) (front back back' : List Held) → i < length qs → q ≡ get_or qs i opening_queue

@@ -8,10 +8,9 @@ pub loop-queue-preserved : goal.loop-queue-preserved
 loop-queue-preserved c =
     let qs = c.args.queues.now in
     let i = c.loop-queue.queue-index in
-    let q = c.queue-item.result in
+    let q = get_or c.loop-queue.queues i c.queue-item.result in
     let within : i < length qs = grind (arith, common_steps) in
-    let at : q ≡ get_or c.loop-queue.queues i q = grind (arith, common_steps) in
-    let own : q ≡ get_or qs i opening_queue = still_there qs i q within (rw (← c.loop-queue.invariant.queues) at) in
+    let own : q ≡ get_or qs i opening_queue = ap (λ xs. get_or xs i c.queue-item.result) c.loop-queue.invariant.queues ∙ still_there qs i c.queue-item.result within in
     let few = c.loop-queue.invariant.few in
     let more = c.stop.ensures.few in
     record {
