@@ -109,7 +109,7 @@ abbrev next_of : Result IoctlAnswer Errno → IoctlAnswer → IoctlAnswer
 next_of (Ok a) d = a
 next_of (Err e) d = d
 
-outcome_next : (o : Option Errno) (row : IoctlRow) (a : IoctlAnswer) → refused_or o (record { payload = row.payload; back = row.back; next = row.next }) ≡ Ok a → a.next ≡ row.next
+pub outcome_next : (o : Option Errno) (row : IoctlRow) (a : IoctlAnswer) → refused_or o (record { payload = row.payload; back = row.back; next = row.next }) ≡ Ok a → a.next ≡ row.next
 outcome_next None row a is = sym (ap (λ r. (next_of r a).next) is)
 outcome_next (Some e) row a is = cc
 

@@ -95,6 +95,14 @@ MadeFew (Some s) = s.made < 2 ^ 32 - 32
 abbrev pub EachMadeFew : HostState → Type 0
 EachMadeFew h = (id : ℕ) → MadeFew (session_of h id)
 
+abbrev pub MostMade : ℕ → Option Session → Type 0
+MostMade n None = Unit {0}
+MostMade n (Some s) = s.made ≤ n
+
+-- each live session made no more frames than this
+abbrev pub EachMadeMost : ℕ → HostState → Type 0
+EachMadeMost n h = (id : ℕ) → MostMade n (session_of h id)
+
 -- ---- calls
 
 -- the payload has its length

@@ -22,7 +22,12 @@ impl Session {
     /// and are refused with `EOPNOTSUPP`.
     ///
     /// Source: own, after the Linux V4L2 interface.
-    pub fn ioctl(&mut self, code: IoctlCode, payload: &mut Payload, held: &mut Vec<Held>) -> Result<(), Errno>
+    pub fn ioctl(
+        &mut self,
+        code: IoctlCode,
+        payload: &mut Payload,
+        held: &mut Vec<Held>,
+    ) -> Result<(), Errno>
         requires payload { HasItsLength code payload.old }
         requires frames { self.old.made < 2 ^ 32 - 32 }
         requires room { puts_back code ≡ true → vec_len held.old + 64 ≤ vec_capacity held.old }
@@ -30,8 +35,7 @@ impl Session {
         ensures err { IfErr result (λ e. MayRefuse (ioctl_row self.old code payload.old) e) }
         ensures session_kept { OnErr result (self.new ≡ self.old) }
         ensures payload_kept { OnErr result (payload.new ≡ payload.old) }
-        ensures back {
-            OnOk result (held.new.items ≡ held.old.items ++ (ioctl_row self.old code payload.old).back) }
+        ensures back { OnOk result (held.new.items ≡ held.old.items ++ (ioctl_row self.old code payload.old).back) }
         ensures held_kept { OnErr result (held.new.items ≡ held.old.items) }
         ensures capacity { vec_capacity held.new ≡ vec_capacity held.old }
         ensures size { length payload.new ≡ length payload.old }
@@ -42,15 +46,19 @@ impl Session {
     }
 
     /// Does a call, and gives the payload that answers it.
-    fn answer(&mut self, code: IoctlCode, request: &Payload, held: &mut Vec<Held>) -> Result<Payload, Errno>
+    fn answer(
+        &mut self,
+        code: IoctlCode,
+        request: &Payload,
+        held: &mut Vec<Held>,
+    ) -> Result<Payload, Errno>
         requires payload { HasItsLength code request.now }
         requires frames { self.old.made < 2 ^ 32 - 32 }
         requires room { puts_back code ≡ true → vec_len held.old + 64 ≤ vec_capacity held.old }
         ensures ok { IfOk result (λ payload. Answers (ioctl_row self.old code request.now) payload self.new) }
         ensures err { IfErr result (λ e. MayRefuse (ioctl_row self.old code request.now) e) }
         ensures kept { OnErr result (self.new ≡ self.old) }
-        ensures back {
-            OnOk result (held.new.items ≡ held.old.items ++ (ioctl_row self.old code request.now).back) }
+        ensures back { OnOk result (held.new.items ≡ held.old.items ++ (ioctl_row self.old code request.now).back) }
         ensures held_kept { OnErr result (held.new.items ≡ held.old.items) }
         ensures capacity { vec_capacity held.new ≡ vec_capacity held.old }
         ensures size { IfOk result (λ payload. length payload ≡ length request.now) }

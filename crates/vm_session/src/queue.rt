@@ -34,14 +34,14 @@ impl Model for Queue {
     ghost Value = { SessionQueue };
 
     ghost view = { λ q. record {
-        format = q.format;
-        kind = q.buffers.kind;
-        lengths = q.lengths.items;
-        first_frame = q.first_frame;
-        streaming = q.streaming;
-        sequence = q.sequence;
-        queued = q.buffers.queued;
-        out = q.buffers.out;
+      format = q.format;
+      kind = q.buffers.kind;
+      lengths = q.lengths.items;
+      first_frame = q.first_frame;
+      streaming = q.streaming;
+      sequence = q.sequence;
+      queued = q.buffers.queued;
+      out = q.buffers.out;
     } };
 
     // Each buffer has a length, and no call takes memory, since there is room for the most. No call takes a buffer out

@@ -35,11 +35,11 @@ impl Model for Session {
     ghost Value = { SessionState };
 
     ghost view = { λ s. record {
-        model = s.model;
-        id = s.id;
-        input = s.input;
-        queues = s.queues.items;
-        made = s.made;
+      model = s.model;
+      id = s.id;
+      input = s.input;
+      queues = s.queues.items;
+      made = s.made;
     } };
 
     ghost invariant = { λ s.

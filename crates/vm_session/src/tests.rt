@@ -1,6 +1,8 @@
 // Each call with good words and with each refusal. Numbers and texts are worked by hand from the tables of the interface
 // and of the formats.
 
+ghost use Rattle.std.specs.Prelude.{◌≡◌, length};
+
 use crate::Session;
 use std::alloc::Global;
 use std::test::Fail;
@@ -39,7 +41,7 @@ struct Opened {
     held: Vec<Held>,
 }
 
-fn opened(alloc: Global, model: Model, id: u32) -> Result<Opened, Fail> {
+fn open_session(alloc: Global, model: Model, id: u32) -> Result<Opened, Fail> {
     Ok(Opened {
         session: Session::new(alloc, model, id)?,
         held: Vec::with_capacity(alloc, 128)?,
@@ -47,7 +49,9 @@ fn opened(alloc: Global, model: Model, id: u32) -> Result<Opened, Fail> {
 }
 
 // Calls the session, where the call's conditions are met; EIO, which no call answers, says that they aren't.
-fn call(opened: &mut Opened, code: IoctlCode, payload: &mut Payload) -> Result<(), Errno> {
+fn call(opened: &mut Opened, code: IoctlCode, payload: &mut Payload) -> Result<(), Errno>
+    ensures { length payload.new ≡ length payload.old }
+{
     let sized = payload.as_bytes().len() == code.payload_size() as usize;
     let roomy = opened.held.capacity() - opened.held.len() >= 64;
     if opened.session.made > 1000 || !sized || !roomy {
@@ -117,9 +121,12 @@ fn sinput(session: &mut Opened, i: u32) -> Result<Payload, Errno> {
 
 #[test]
 fn the_device_is_told(rt: HostRuntime) -> Result<(), Fail> {
-    let mut session = opened(rt.alloc(), Model::Capture, 0)?;
+    let mut session = open_session(rt.alloc(), Model::Capture, 0)?;
     let mut payload = Payload::zeros(104);
-    assert_eq!(rt; call(&mut session, IoctlCode::QueryCap, &mut payload), Ok(()));
+    assert_eq!(rt;
+        call(&mut session, IoctlCode::QueryCap, &mut payload),
+        Ok(())
+    );
     let want = Capability {
         driver: *b"vmedia\0\0\0\0\0\0\0\0\0\0",
         card: *b"vmedia capture\0\0\0\0\0\0\0\0\0\0\0\0\0\0\0\0\0\0",
@@ -134,7 +141,7 @@ fn the_device_is_told(rt: HostRuntime) -> Result<(), Fail> {
 
 #[test]
 fn formats_are_told_tried_and_set(rt: HostRuntime) -> Result<(), Fail> {
-    let mut session = opened(rt.alloc(), Model::Capture, 7)?;
+    let mut session = open_session(rt.alloc(), Model::Capture, 7)?;
     let first = Ok((GREY, 64, 48, 64, 3072));
     assert_eq!(rt; gfmt(&mut session, CAP), first);
     let tried = [
@@ -161,7 +168,7 @@ fn formats_are_told_tried_and_set(rt: HostRuntime) -> Result<(), Fail> {
 
 #[test]
 fn a_source_gives_its_size_to_the_pictures(rt: HostRuntime) -> Result<(), Fail> {
-    let mut session = opened(rt.alloc(), Model::Convert, 0)?;
+    let mut session = open_session(rt.alloc(), Model::Convert, 0)?;
     assert_eq!(rt;
         sfmt(&mut session, CAP, RGB3, 64, 48),
         Ok((RGB3, 64, 48, 192, 9216))
@@ -191,7 +198,7 @@ fn a_source_gives_its_size_to_the_pictures(rt: HostRuntime) -> Result<(), Fail> 
 
 #[test]
 fn formats_are_listed(rt: HostRuntime) -> Result<(), Fail> {
-    let mut session = opened(rt.alloc(), Model::Capture, 0)?;
+    let mut session = open_session(rt.alloc(), Model::Capture, 0)?;
     let letters = ["GREY", "YUYV", "UYVY", "NV12", "YU12", "RGB3"];
     let codes = [
         0x5945_5247,
@@ -219,7 +226,7 @@ fn formats_are_listed(rt: HostRuntime) -> Result<(), Fail> {
 
 #[test]
 fn inputs_are_listed_and_chosen(rt: HostRuntime) -> Result<(), Fail> {
-    let mut session = opened(rt.alloc(), Model::Capture, 0)?;
+    let mut session = open_session(rt.alloc(), Model::Capture, 0)?;
     for (i, name) in [(0, "bars"), (1, "ramp"), (2, "checker"), (3, "count")] {
         let want = InputRec {
             index: i,
@@ -237,7 +244,7 @@ fn inputs_are_listed_and_chosen(rt: HostRuntime) -> Result<(), Fail> {
         // A refused call chooses nothing.
         assert_eq!(rt; ginput(&mut session), Ok(Payload::new(&[3, 0, 0, 0])));
     }
-    let mut converter = opened(rt.alloc(), Model::Convert, 0)?;
+    let mut converter = open_session(rt.alloc(), Model::Convert, 0)?;
     for i in [0, 4] {
         assert_eq!(rt; enuminput(&mut converter, i), Err(Errno::Enotty));
         assert_eq!(rt; sinput(&mut converter, i), Err(Errno::Enotty));
@@ -248,7 +255,7 @@ fn inputs_are_listed_and_chosen(rt: HostRuntime) -> Result<(), Fail> {
 
 #[test]
 fn bytes_are_read_at_their_offsets(rt: HostRuntime) -> Result<(), Fail> {
-    let mut session = opened(rt.alloc(), Model::Capture, 0)?;
+    let mut session = open_session(rt.alloc(), Model::Capture, 0)?;
     // Type 1, 641 by 1, "ABCD"; the bytes that no field has are ignored.
     let mut bytes = [0xee; 208];
     bytes[..20].copy_from_slice(&[

@@ -39,13 +39,27 @@ fn made(count: u8, t: u8, memory: u8) -> Result<Payload, Errno> {
     Ok(Payload::new(&bytes))
 }
 
-// The first 20 bytes of a v4l2_buffer, and the 16 from its memory kind on.
-fn told(head: &[u8; 20], memory: &[u8; 16]) -> Result<Payload, Errno> {
-    let mut bytes = [0; 88];
-    bytes[..20].copy_from_slice(head);
-    bytes[60..76].copy_from_slice(memory);
-    Ok(Payload::new(&bytes))
-}
+// The v4l2_buffer of index 1 and type 1: flags 0x2000 at 12, field 1 at 16; at 60 memory 1, at 64 the offset 0x100000, and
+// at 72 the 3072 bytes.
+const MAPPED: [u8; 88] = [
+    1, 0, 0, 0, 1, 0, 0, 0, 0, 0, 0, 0, 0, 32, 0, 0, 1, 0, 0, 0, 0, 0, 0, 0, 0, 0, 0, 0, 0, 0, 0,
+    0, 0, 0, 0, 0, 0, 0, 0, 0, 0, 0, 0, 0, 0, 0, 0, 0, 0, 0, 0, 0, 0, 0, 0, 0, 0, 0, 0, 0, 1, 0, 0,
+    0, 0, 0, 16, 0, 0, 0, 0, 0, 0, 12, 0, 0, 0, 0, 0, 0, 0, 0, 0, 0, 0, 0, 0, 0,
+];
+
+// The same of a user's memory, 2, which has no offset.
+const BROUGHT: [u8; 88] = [
+    1, 0, 0, 0, 1, 0, 0, 0, 0, 0, 0, 0, 0, 32, 0, 0, 1, 0, 0, 0, 0, 0, 0, 0, 0, 0, 0, 0, 0, 0, 0,
+    0, 0, 0, 0, 0, 0, 0, 0, 0, 0, 0, 0, 0, 0, 0, 0, 0, 0, 0, 0, 0, 0, 0, 0, 0, 0, 0, 0, 0, 2, 0, 0,
+    0, 0, 0, 0, 0, 0, 0, 0, 0, 0, 12, 0, 0, 0, 0, 0, 0, 0, 0, 0, 0, 0, 0, 0, 0,
+];
+
+// Index 2 and type 2 of a converter: flags 0x4000, and the offset 0x2200000.
+const MAPPED_OUT: [u8; 88] = [
+    2, 0, 0, 0, 2, 0, 0, 0, 0, 0, 0, 0, 0, 64, 0, 0, 1, 0, 0, 0, 0, 0, 0, 0, 0, 0, 0, 0, 0, 0, 0,
+    0, 0, 0, 0, 0, 0, 0, 0, 0, 0, 0, 0, 0, 0, 0, 0, 0, 0, 0, 0, 0, 0, 0, 0, 0, 0, 0, 0, 0, 1, 0, 0,
+    0, 0, 0, 32, 2, 0, 0, 0, 0, 0, 12, 0, 0, 0, 0, 0, 0, 0, 0, 0, 0, 0, 0, 0, 0,
+];
 
 // What came back last: the type, the index, the tag, how many bytes, and whether all that are looked at are 0. It is taken
 // away.
@@ -67,7 +81,7 @@ fn last_back(session: &mut Opened) -> (u32, u32, u64, u32, bool) {
 
 #[test]
 fn buffers_are_made_and_told(rt: HostRuntime) -> Result<(), Fail> {
-    let mut session = opened(rt.alloc(), Model::Capture, ID)?;
+    let mut session = open_session(rt.alloc(), Model::Capture, ID)?;
     let none = Err(Errno::Einval);
     for (t, memory, count) in [
         (OUT, MMAP, 1),
@@ -81,23 +95,19 @@ fn buffers_are_made_and_told(rt: HostRuntime) -> Result<(), Fail> {
     }
     assert_eq!(rt; querybuf(&mut session, CAP, 0), none);
     assert_eq!(rt; reqbufs(&mut session, CAP, MMAP, 2), made(2, 1, 1));
-    // Index 1, type 1, flags 0x2000, field 1; memory 1, the offset 0x100000, 3072 bytes.
-    let head = [1, 0, 0, 0, 1, 0, 0, 0, 0, 0, 0, 0, 0, 0x20, 0, 0, 1, 0, 0, 0];
-    let mapped = [1, 0, 0, 0, 0, 0, 0x10, 0, 0, 0, 0, 0, 0, 12, 0, 0];
-    assert_eq!(rt; querybuf(&mut session, CAP, 1), told(&head, &mapped));
+    assert_eq!(rt; querybuf(&mut session, CAP, 1), Ok(Payload::new(&MAPPED)));
     for (t, i) in [(CAP, 2), (CAP, 4_294_967_295), (OUT, 0), (0, 0)] {
         assert_eq!(rt; querybuf(&mut session, t, i), none);
     }
     // A user's buffer has the picture's size until it is queued, and no offset.
     assert_eq!(rt; reqbufs(&mut session, CAP, USERPTR, 2), made(2, 1, 2));
-    let brought = [2, 0, 0, 0, 0, 0, 0, 0, 0, 0, 0, 0, 0, 12, 0, 0];
-    assert_eq!(rt; querybuf(&mut session, CAP, 1), told(&head, &brought));
+    assert_eq!(rt; querybuf(&mut session, CAP, 1), Ok(Payload::new(&BROUGHT)));
     Ok(())
 }
 
 #[test]
 fn a_queue_has_at_most_32_buffers_and_none_after_0(rt: HostRuntime) -> Result<(), Fail> {
-    let mut session = opened(rt.alloc(), Model::Capture, ID)?;
+    let mut session = open_session(rt.alloc(), Model::Capture, ID)?;
     assert_eq!(rt; reqbufs(&mut session, CAP, MMAP, 40), made(32, 1, 1));
     assert_eq!(rt; session.held.len(), 32);
     assert_eq!(rt; last_back(&mut session), (1, 31, FIRST + 31, 3072, true));
@@ -116,13 +126,9 @@ fn a_queue_has_at_most_32_buffers_and_none_after_0(rt: HostRuntime) -> Result<()
 
 #[test]
 fn formats_stay_while_there_are_buffers(rt: HostRuntime) -> Result<(), Fail> {
-    let mut session = opened(rt.alloc(), Model::Convert, ID)?;
+    let mut session = open_session(rt.alloc(), Model::Convert, ID)?;
     assert_eq!(rt; reqbufs(&mut session, OUT, USERPTR, 1), made(1, 2, 2));
-    for (t, want) in [
-        (OUT, Errno::Ebusy),
-        (CAP, Errno::Ebusy),
-        (0, Errno::Einval),
-    ] {
+    for (t, want) in [(OUT, Errno::Ebusy), (CAP, Errno::Ebusy), (0, Errno::Einval)] {
         assert_eq!(rt; sfmt(&mut session, t, GREY, 16, 16), Err(want));
     }
     assert_eq!(rt; gfmt(&mut session, OUT), Ok((GREY, 64, 48, 64, 3072)));
@@ -137,7 +143,7 @@ fn formats_stay_while_there_are_buffers(rt: HostRuntime) -> Result<(), Fail> {
 
 #[test]
 fn frames_are_found_by_their_offsets(rt: HostRuntime) -> Result<(), Fail> {
-    let mut session = opened(rt.alloc(), Model::Convert, ID)?;
+    let mut session = open_session(rt.alloc(), Model::Convert, ID)?;
     assert_eq!(rt; reqbufs(&mut session, CAP, MMAP, 2), made(2, 1, 1));
     assert_eq!(rt; reqbufs(&mut session, OUT, MMAP, 3), made(3, 2, 1));
     let none = Err(Errno::Einval);
@@ -154,26 +160,32 @@ fn frames_are_found_by_their_offsets(rt: HostRuntime) -> Result<(), Fail> {
     ] {
         assert_eq!(rt; session.session.frame_of(offset), want);
     }
-    // Index 2, type 2, flags 0x4000, field 1; memory 1, the offset 0x2200000, 3072 bytes.
-    let head = [2, 0, 0, 0, 2, 0, 0, 0, 0, 0, 0, 0, 0, 0x40, 0, 0, 1, 0, 0, 0];
-    let mapped = [1, 0, 0, 0, 0, 0, 0x20, 2, 0, 0, 0, 0, 0, 12, 0, 0];
-    assert_eq!(rt; querybuf(&mut session, OUT, 2), told(&head, &mapped));
+    assert_eq!(rt;
+        querybuf(&mut session, OUT, 2),
+        Ok(Payload::new(&MAPPED_OUT))
+    );
     // A user's buffers aren't mapped.
     assert_eq!(rt; reqbufs(&mut session, CAP, USERPTR, 2), made(2, 1, 2));
     assert_eq!(rt; session.session.frame_of(0), none);
-    assert_eq!(rt; session.session.frame_of(0x0200_0000), Ok((FIRST + 2, 3072)));
+    assert_eq!(rt;
+        session.session.frame_of(0x0200_0000),
+        Ok((FIRST + 2, 3072))
+    );
     Ok(())
 }
 
 #[test]
 fn nothing_comes_back_where_nothing_is_queued(rt: HostRuntime) -> Result<(), Fail> {
-    let mut session = opened(rt.alloc(), Model::Convert, ID)?;
+    let mut session = open_session(rt.alloc(), Model::Convert, ID)?;
     assert_eq!(rt; reqbufs(&mut session, CAP, MMAP, 2), made(2, 1, 1));
     let mut back = Vec::with_capacity(rt.alloc(), 64)?;
     session.session.stop(&mut back);
     assert_eq!(rt; back.len(), 0);
     // The buffers stay.
-    assert_eq!(rt; session.session.frame_of(0x0010_0000), Ok((FIRST + 1, 3072)));
+    assert_eq!(rt;
+        session.session.frame_of(0x0010_0000),
+        Ok((FIRST + 1, 3072))
+    );
     assert_eq!(rt; sfmt(&mut session, CAP, GREY, 16, 16), Err(Errno::Ebusy));
     Ok(())
 }
