@@ -20,7 +20,8 @@ use vm_queue::MAX_BUFFERS;
 use vm_wire::{Payload, buffer_payload, querybuf_answer, reqbufs_answer, reqbufs_payload};
 
 impl Session {
-    /// Frees the buffers of the queue of type `t`, which stops, and makes `count` others of this memory kind, at most 32.
+    /// Frees the buffers of the queue of type `t`, which stops, and makes `count` others of this
+    /// memory kind, at most 32.
     #[tactic(auto, unfolding(crate::specs::Session::reqbufs_row))]
     pub(crate) fn reqbufs(
         &mut self,
@@ -68,8 +69,9 @@ impl Session {
         }
     }
 
-    /// Stops all queues, as the session is closed. The memories that are queued go behind what `back` has, queue by queue
-    /// in the model's order, each queue's in the order in which they were queued.
+    /// Stops all queues, as the session is closed. The memories that are queued go behind what
+    /// `back` has, queue by queue in the model's order, each queue's in the order in which they
+    /// were queued.
     ///
     /// Source: own, after the Linux V4L2 interface.
     pub fn stop(&mut self, back: &mut Vec<Held>)
@@ -81,7 +83,8 @@ impl Session {
         stop_all(&mut self.queues, back);
     }
 
-    /// The tag and the length, in bytes, of the frame of the buffer that is mapped from this offset.
+    /// The tag and the length, in bytes, of the frame of the buffer that is mapped from this
+    /// offset.
     ///
     /// # Errors
     /// `EINVAL` exactly where there is none: no buffer has the offset, or the device didn't give its memory.
@@ -96,7 +99,8 @@ impl Session {
         }
     }
 
-    /// Refuses a request for buffers of a type or a memory kind that there isn't, or for some while the queue streams.
+    /// Refuses a request for buffers of a type or a memory kind that there isn't, or for some
+    /// while the queue streams.
     #[tactic(auto, unfolding(crate::specs::Session::reqbufs_row))]
     fn check_reqbufs(&self, t: u32, memory: u32, count: u32) -> Result<(), Errno>
         ensures ok { OnOk result (first_refusal (reqbufs_row self.now t memory count).refusals ≡ None) }
@@ -113,8 +117,8 @@ impl Session {
         Ok(())
     }
 
-    /// The fresh memories of so many buffers of this memory kind for the queue of type `t`. Want of memory comes only where
-    /// one is asked for.
+    /// The fresh memories of so many buffers of this memory kind for the queue of type `t`. Want
+    /// of memory comes only where one is asked for.
     fn fresh_memories(&self, t: u32, memory: u32, count: u32) -> Result<VecDeque<Held>, Memory>
         requires frames { self.now.made < 2 ^ 32 - 32 }
         requires count { count ≤ 32 }
@@ -127,7 +131,8 @@ impl Session {
         fresh_frames(self.alloc, t, first, size, frame_count(memory, count))
     }
 
-    /// Stops the queue of type `t` and gives it so many buffers of this memory kind in place of the earlier ones.
+    /// Stops the queue of type `t` and gives it so many buffers of this memory kind in place of
+    /// the earlier ones.
     fn renew(&mut self, t: u32, memory: u32, count: u32, back: &mut Vec<Held>)
         requires frames { self.old.made < 2 ^ 32 - 32 }
         requires count { count ≤ 32 }

@@ -11,10 +11,11 @@ use vm_frame::Held;
 use vm_wire::{Payload, buffer_in, reqbufs_in};
 
 impl Session {
-    /// Does the call with this code, whose request is in the payload and whose answer stands there afterwards, in as
-    /// many bytes. What it takes out of the session's hands goes behind what `held` has: a request for buffers puts the
-    /// memories of those that were queued there, in the order in which they were queued, and then the fresh frames by
-    /// their index. A call that puts memories back has room for 64 there. Fewer than 2^32 - 32 frames were made before.
+    /// Does the call with this code, whose request is in the payload and whose answer stands there
+    /// afterwards, in as many bytes. What it takes out of the session's hands goes behind what
+    /// `held` has: a request for buffers puts the memories of those that were queued there, in the
+    /// order in which they were queued, and then the fresh frames by their index. A call that puts
+    /// memories back has room for 64 there. Fewer than 2^32 - 32 frames were made before.
     ///
     /// # Errors
     /// The first refusal of the call that applies, or `ENOMEM` where none does and the memory for fresh frames can't be

@@ -63,8 +63,8 @@ impl Session {
         Ok(format_payload(&format_answer(t, &format)))
     }
 
-    /// Sets the format of the queue of type `t` to the one that it takes where it is asked for this one, unless a queue has
-    /// buffers.
+    /// Sets the format of the queue of type `t` to the one that it takes where it is asked for
+    /// this one, unless a queue has buffers.
     #[tactic(auto, unfolding(crate::specs::Session::sfmt_row))]
     pub(crate) fn sfmt(&mut self, t: u32, f: FourCc, w: u32, h: u32) -> Result<Payload, Errno>
         ensures ok { IfOk result (λ payload. Answers (sfmt_row self.old t f w h) payload self.new) }
@@ -100,8 +100,8 @@ impl Session {
         }
     }
 
-    /// Sets the format of the queue of type `t`. Where the device makes its pictures from that queue's, they get
-    /// its size.
+    /// Sets the format of the queue of type `t`. Where the device makes its pictures from that
+    /// queue's, they get its size.
     #[tactic(auto, unfolding(v4l_rules::specs::Formats::with_set_format_at))]
     fn set_format(&mut self, t: u32, format: Fmt)
         requires { IsAdjusted format }

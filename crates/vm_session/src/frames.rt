@@ -16,8 +16,8 @@ pub fn frame_tag(id: u32, before: u32) -> u64
     u64::from(id) * 0x1_0000_0000 + u64::from(before)
 }
 
-/// So many zeroed frames of `size` bytes for the first buffers of type `t`, with the tags from `first` on. Want of memory
-/// comes only where one is asked for.
+/// So many zeroed frames of `size` bytes for the first buffers of type `t`, with the tags from
+/// `first` on. Want of memory comes only where one is asked for.
 pub fn fresh_frames(
     alloc: Global,
     t: u32,
@@ -42,8 +42,8 @@ pub fn fresh_frames(
     Ok(frames)
 }
 
-/// The tag and the length of the frame that is mapped from an offset, among those of buffers of type `t` with these lengths;
-/// the first of them has the tag `first`.
+/// The tag and the length of the frame that is mapped from an offset, among those of buffers of
+/// type `t` with these lengths; the first of them has the tag `first`.
 pub fn find_frame(lengths: &[u32], t: u32, first: u64, offset: u32) -> Option<(u64, u32)>
     requires few { length lengths.now ≤ 32 }
     requires small { first + 32 ≤ 2 ^ 64 }

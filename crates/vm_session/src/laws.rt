@@ -10,8 +10,8 @@ ghost use Rattle.vm_wire.specs.Records.{fmt_desc_request, format_request, format
 ghost use Rattle.vm_wire.specs.Wire.{le};
 ghost use Rattle.vm_session.specs.Session.{SessionState, IoctlAnswer, ioctl_row, ioctl_outcome, enumfmt_row, gfmt_row, tryfmt_row, sfmt_row, enuminput_row, sinput_row, reqbufs_row, querybuf_row};
 
-/// Each call does what its request asks for: what it reads from the bytes of the request are the request's words. QUERYCAP
-/// and G_INPUT have no words.
+/// Each call does what its request asks for: what it reads from the bytes of the request are the
+/// request's words. QUERYCAP and G_INPUT have no words.
 pub fn requests_are_read()
     ensures enumfmt { (s : SessionState) (t i : ℕ) → t < 2 ^ 32 → i < 2 ^ 32 →
         ioctl_row s IoctlCode.EnumFmt (fmtdesc_bytes (fmt_desc_request t i)) ≡ enumfmt_row s t i }

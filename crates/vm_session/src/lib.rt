@@ -1,5 +1,5 @@
-//! A session of the device: what it keeps for one open handle of a guest, and what it answers to the calls that the
-//! handle sends.
+//! A session of the device: what it keeps for one open handle of a guest, and what it answers to
+//! the calls that the handle sends.
 #![tactic(auto)]
 
 mod buffers;

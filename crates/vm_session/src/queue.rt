@@ -44,8 +44,8 @@ impl Model for Queue {
       out = q.buffers.out;
     } };
 
-    // Each buffer has a length, and no call takes memory, since there is room for the most. No call takes a buffer out
-    // yet.
+    // Each buffer has a length, and no call takes memory, since there is room for the most. No
+    // call takes a buffer out yet.
     ghost invariant = { λ q. IsAdjusted q.format
         × (length q.lengths.items ≡ q.buffers.count) × (q.buffers.count ≤ 32) × (32 ≤ vec_capacity q.lengths)
         × (length q.buffers.queued ≤ 32) × (q.buffers.out ≡ []) × (q.first_frame + 32 ≤ 2 ^ 32) };
@@ -111,8 +111,8 @@ impl Queue {
         self.lengths.as_slice().get(index as usize).copied()
     }
 
-    /// The tag and the length of the frame that is mapped from an offset, if the queue, which is of type `t` and belongs
-    /// to the session of this id, has one.
+    /// The tag and the length of the frame that is mapped from an offset, if the queue, which is
+    /// of type `t` and belongs to the session of this id, has one.
     pub fn frame_at(&self, id: u32, t: u32, offset: u32) -> Option<(u64, u32)>
         ensures { result ≡ frame_at offset (frames_of id t self.now) }
     {
@@ -124,8 +124,8 @@ impl Queue {
         }
     }
 
-    /// Stops it: it streams no more, and the memories that are queued go behind what `back` has, the first one first. The
-    /// buffers stay, at home.
+    /// Stops it: it streams no more, and the memories that are queued go behind what `back` has,
+    /// the first one first. The buffers stay, at home.
     pub fn stop(&mut self, back: &mut Vec<Held>)
         requires { vec_len back.old + 32 ≤ vec_capacity back.old }
         ensures queue { self.new ≡ stopped_queue self.old }
@@ -137,8 +137,8 @@ impl Queue {
         self.streaming = false;
     }
 
-    /// Stops it and gives it `count` buffers of this memory kind and the picture's size in place of the earlier ones. The
-    /// session had made so many frames before theirs.
+    /// Stops it and gives it `count` buffers of this memory kind and the picture's size in place
+    /// of the earlier ones. The session had made so many frames before theirs.
     pub fn renew(&mut self, kind: u32, count: u32, made: u32, back: &mut Vec<Held>)
         requires count { count ≤ 32 }
         requires made { made + 32 ≤ 2 ^ 32 }

@@ -92,8 +92,8 @@ pub fn length_at(queues: &[Queue], place: usize, index: u32) -> Option<u32>
     }
 }
 
-/// Stops the queue at a place, where there is one, and gives it `count` buffers of this memory kind in place of the earlier
-/// ones. The session had made so many frames before theirs.
+/// Stops the queue at a place, where there is one, and gives it `count` buffers of this memory
+/// kind in place of the earlier ones. The session had made so many frames before theirs.
 #[tactic(auto, using(std::proofs::lemmas::List::set_past))]
 pub fn renew_at(
     queues: &mut [Queue],
@@ -129,8 +129,8 @@ pub fn stop_all(queues: &mut [Queue], back: &mut Vec<Held>)
     }
 }
 
-/// The tag and the length of the frame that is mapped from an offset, among those of the queues of these types, which are
-/// the queues of the session of this id.
+/// The tag and the length of the frame that is mapped from an offset, among those of the queues of
+/// these types, which are the queues of the session of this id.
 pub fn find_in(queues: &[Queue], types: &[u32], id: u32, offset: u32) -> Option<(u64, u32)>
     ensures { result ≡ frame_at offset (flat_map (λ t. frames_of id t (slice_index_or queues.now (place_in types.now t) opening_queue)) types.now) }
 {

@@ -47,8 +47,8 @@ impl Model for Session {
 }
 
 impl Session {
-    /// A session of a device of this model as it is opened: input 0, and GREY 64 by 48 on every queue. The wire names
-    /// it by `id`.
+    /// A session of a device of this model as it is opened: input 0, and GREY 64 by 48 on every
+    /// queue. The wire names it by `id`.
     ///
     /// # Errors
     /// `Memory` where the memory for the queues can't be had.

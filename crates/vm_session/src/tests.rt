@@ -1,5 +1,5 @@
-// Each call with good words and with each refusal. Numbers and texts are worked by hand from the tables of the interface
-// and of the formats.
+// Each call with good words and with each refusal. Numbers and texts are worked by hand from the
+// tables of the interface and of the formats.
 
 ghost use Rattle.std.specs.Prelude.{◌≡◌, length};
 
@@ -48,7 +48,8 @@ fn open_session(alloc: Global, model: Model, id: u32) -> Result<Opened, Fail> {
     })
 }
 
-// Calls the session, where the call's conditions are met; EIO, which no call answers, says that they aren't.
+// Calls the session, where the call's conditions are met; EIO, which no call answers, says that
+// they aren't.
 fn call(opened: &mut Opened, code: IoctlCode, payload: &mut Payload) -> Result<(), Errno>
     ensures { length payload.new ≡ length payload.old }
 {

@@ -39,8 +39,8 @@ fn made(count: u8, t: u8, memory: u8) -> Result<Payload, Errno> {
     Ok(Payload::new(&bytes))
 }
 
-// The v4l2_buffer of index 1 and type 1: flags 0x2000 at 12, field 1 at 16; at 60 memory 1, at 64 the offset 0x100000, and
-// at 72 the 3072 bytes.
+// The v4l2_buffer of index 1 and type 1: flags 0x2000 at 12, field 1 at 16; at 60 memory 1, at 64
+// the offset 0x100000, and at 72 the 3072 bytes.
 const MAPPED: [u8; 88] = [
     1, 0, 0, 0, 1, 0, 0, 0, 0, 0, 0, 0, 0, 32, 0, 0, 1, 0, 0, 0, 0, 0, 0, 0, 0, 0, 0, 0, 0, 0, 0,
     0, 0, 0, 0, 0, 0, 0, 0, 0, 0, 0, 0, 0, 0, 0, 0, 0, 0, 0, 0, 0, 0, 0, 0, 0, 0, 0, 0, 0, 1, 0, 0,
@@ -61,8 +61,8 @@ const MAPPED_OUT: [u8; 88] = [
     0, 0, 0, 32, 2, 0, 0, 0, 0, 0, 12, 0, 0, 0, 0, 0, 0, 0, 0, 0, 0, 0, 0, 0, 0,
 ];
 
-// What came back last: the type, the index, the tag, how many bytes, and whether all that are looked at are 0. It is taken
-// away.
+// What came back last: the type, the index, the tag, how many bytes, and whether all that are
+// looked at are 0. It is taken away.
 fn last_back(session: &mut Opened) -> (u32, u32, u64, u32, bool) {
     let Some(held) = session.held.pop() else {
         return (0, 0, 0, 0, false);
