@@ -1,5 +1,5 @@
 -- Lemmas on a chain that the device takes, serves and finishes.
-use Rattle.std.proofs.Common.{◌≡◌, ℕ, ◌≤◌, Bool, false, Option, Some, None, Result, Ok, Err, IfOk, List, [], ◌∷◌, ◌++◌, length, take, drop, refl, sym, ap, ◌∙◌, subst, arith, nat_lt}
+use Rattle.std.proofs.Common.{◌≡◌, ℕ, ◌+◌, ◌≤◌, Bool, false, Option, Some, None, Result, Ok, Err, IfOk, List, [], ◌∷◌, ◌++◌, length, take, drop, refl, sym, ap, ◌∙◌, subst, arith, nat_lt}
 use Rattle.std.specs.Result.{result_err, result_unwrap_or}
 use Rattle.std.proofs.lemmas.Bool.Decides.{nat_tests}
 use Rattle.std.proofs.lemmas.List.{length-drop}
@@ -7,6 +7,7 @@ use Rattle.vm_chain.specs.Chain.{WalkedChain, writable_bytes}
 use Rattle.vm_chain.specs.declared.desc.Desc.{Desc}
 use Rattle.vm_chain.specs.declared.fault.ChainFault.{ChainFault}
 use Rattle.vm_chain.specs.Walk.{walk_of}
+use Rattle.vm_frame.specs.declared.mem.Held.{Held}
 use Rattle.vm_link.specs.Parcel.{homes_of}
 use Rattle.vm_link.specs.Queue.{Queue, TakesFirst, finished, rest_of}
 use Rattle.vm_link.specs.declared.parcel.Finished.{Finished}
@@ -23,7 +24,7 @@ use Rattle.vm_wire.specs.declared.response.Response.{Response}
 use Rattle.vm_wire.proofs.PayloadLemmas.{need_of_front}
 use Rattle.vm_host.specs.Carrier.{readable_of, written, Fits}
 use Rattle.vm_host.specs.Sessions.{HostState}
-use Rattle.vm_host.specs.Host.{chain_in, asked_by, answer_to, IsGiven, FitsCall, Sent, Serves, AnswersIf, Served, done_as, moved_on, Executes, AsksToOpen}
+use Rattle.vm_host.specs.Host.{chain_in, asked_by, answer_to, IsGiven, IsGivenWith, FitsCall, Sent, Serves, AnswersIf, Served, done_as, moved_on, Executes, AsksToOpen, HasRoom}
 use Rattle.vm_host.proofs.CarrierLemmas.{walk_fits}
 
 -- a command that is spelled has a payload of its call's size
@@ -43,15 +44,15 @@ no_less : (room : ℕ) → 8 ≤ room → nat_lt room 8 ≡ false
 no_less room enough = grind (arith, nat_tests)
 
 -- a chain that has room for a reply goes back with its answer
-pub answered : (descs : List Desc) (p p' : Parcel) (h h' : HostState) (used room : ℕ) (bytes : List ℕ) (d : Result Command CmdFault) (r : Response) → 8 ≤ room → room ≡ writable_bytes descs
-    → bytes ≡ readable_of descs p.pages → d ≡ judged bytes room → IsGiven (λ memory. answer_to memory h d) r h' → used ≡ length (response_bytes r)
-    → p' ≡ record p { pages = written descs (response_bytes r) p.pages } → Served None descs p h used p' h'
-answered descs p p' h h' used room bytes d r enough is read exact given count pages =
+pub answered : (descs : List Desc) (p p' : Parcel) (held : List Held) (h h' : HostState) (used room : ℕ) (bytes : List ℕ) (d : Result Command CmdFault) (r : Response) → 8 ≤ room → room ≡ writable_bytes descs
+    → bytes ≡ readable_of descs p.pages → d ≡ judged bytes room → IsGivenWith (λ memory. answer_to memory h d) r p.held held h' → used ≡ length (response_bytes r)
+    → p' ≡ record p { pages = written descs (response_bytes r) p.pages; held = held } → Served None descs p h used p' h'
+answered descs p p' held h h' used room bytes d r enough is read exact given count pages =
     let asked : d ≡ asked_by descs p.pages = exact ∙ ap (λ bs. judged bs room) read ∙ ap (judged (readable_of descs p.pages)) is in
-    let P : Result Command CmdFault → Type 0 = λ x. IsGiven (λ memory. answer_to memory h x) r h' in
+    let P : Result Command CmdFault → Type 0 = λ x. IsGiven (λ memory. answer_to memory h x) r given.0 h' in
     let Q : Bool → Type 0 = λ b. AnswersIf b descs p h (record { used = used; parcel = p' }) h' in
     let test : nat_lt (writable_bytes descs) 8 ≡ false = ap (λ n. nat_lt n 8) (sym is) ∙ no_less room enough in
-    subst Q (sym test) (r, subst P asked given, rw (count, pages) refl)
+    subst Q (sym test) (r, given.0, subst P asked given.1, rw (count, pages, given.2) refl)
 
 take-front : {A : Type 0} (xs ys : List A) → take (length xs) (xs ++ ys) ≡ xs
 take-front [] ys = refl
@@ -89,6 +90,11 @@ pub taken_opens : (q q' : Queue) (chain chain' : WalkedChain) (t : Taken) → ch
     → asked_by chain'.descs t.parcel.pages ≡ Ok OpenSession → AsksToOpen q.waiting
 taken_opens q q' chain chain' t limit takes none opens =
     subst AsksToOpen (sym takes.first) (chain'.descs, walked q q' chain chain' t limit takes none, opens)
+
+-- the chain that is taken has the room of the one that waited first
+pub taken_room : (q q' : Queue) (chain chain' : WalkedChain) (t : Taken) → TakesFirst q chain t q' chain' → HasRoom q.waiting
+    → length t.parcel.held + 64 ≤ t.parcel.room
+taken_room q q' chain chain' t takes roomy = subst HasRoom takes.first roomy
 
 abbrev fault_or : ChainFault → Option ChainFault → ChainFault
 fault_or d None = d

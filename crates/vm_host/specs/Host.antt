@@ -1,11 +1,12 @@
 -- What the device answers to a command, and its sessions after it.
-use Rattle.std.specs.Prelude.{ℕ, ◌≡◌, Bool, true, false, Option, Some, None, Result, Ok, Err, List, [], ◌∷◌, ◌++◌, length, nat_lt, if◌then◌else◌, is_some, Contains, slice_index_or, slice_set}
+use Rattle.std.specs.Prelude.{ℕ, ◌≡◌, ◌<◌, ◌≤◌, ◌+◌, ◌-◌, ◌^◌, Bool, true, false, Option, Some, None, Result, Ok, Err, List, [], ◌∷◌, ◌++◌, length, nat_lt, if◌then◌else◌, is_some, Contains, slice_index_or, slice_set}
 use Rattle.slab.specs.Slab.{Slab, Updates}
 use Rattle.v4l_const.specs.Errno.{errno_number}
 use Rattle.v4l_const.specs.declared.errno.Errno.{Errno}
 use Rattle.v4l_const.specs.declared.errno.Errno.TheVariants.{Einval, Eopnotsupp, Enotty, Emsgsize, Enomem, Ebadf}
 use Rattle.v4l_const.specs.declared.ioctl_code.IoctlCode.{IoctlCode}
 use Rattle.v4l_const.specs.declared.model.Model.{Model}
+use Rattle.vm_frame.specs.declared.mem.Held.{Held}
 use Rattle.vm_mem.specs.declared.page.Page.{Page}
 use Rattle.vm_chain.specs.Chain.{writable_bytes}
 use Rattle.vm_chain.specs.Walk.{walk_of}
@@ -26,20 +27,25 @@ use Rattle.vm_wire.specs.declared.command.CmdFault.TheVariants.{Short, UnknownCm
 use Rattle.vm_wire.specs.declared.response.Response.{Response}
 use Rattle.vm_wire.specs.declared.response.Response.TheVariants.{Refused, Opened, Closed, Answered}
 use Rattle.vm_session.specs.declared.session.Session.{Session}
-use Rattle.vm_session.specs.Session.{IoctlAnswer, opening_session, ioctl_outcome}
+use Rattle.vm_session.specs.Session.{IoctlAnswer, opening_session, ioctl_outcome, queued_memories}
 use Rattle.vm_host.specs.Carrier.{readable_of, written}
 use Rattle.vm_host.specs.Sessions.{HostState}
 
 abbrev pub fresh_host : Model → ℕ → HostState
 fresh_host model opens = record { model = model; opens = opens; sessions = [] }
 
--- a reply, and the device after it
+-- a reply, the memories that go back with it, and the device after it
 pub record Answer : Type 0 where
   pub response : Response
+  pub back : List Held
   pub host : HostState
 
+-- a reply with which no memory goes back
+abbrev pub reply_alone : Response → HostState → Answer
+reply_alone response h = record { response = response; back = []; host = h }
+
 abbrev pub refused : Errno → HostState → Answer
-refused errno h = record { response = Refused (errno_number errno); host = h }
+refused errno h = reply_alone (Refused (errno_number errno)) h
 
 -- ---- sessions
 
@@ -54,15 +60,48 @@ without_session h id = record h { sessions = slice_set h.sessions id None }
 abbrev pub session_of : HostState → ℕ → Option Session
 session_of h id = slice_index_or h.sessions id None
 
--- what a call in a session gives: its payload goes back, and the session is as the call leaves it
+-- what a call in a session gives: its payload goes back with the memories that it puts back, and the
+-- session is as the call leaves it
 abbrev pub called : HostState → ℕ → Result IoctlAnswer Errno → Answer
-called h id (Ok a) = record { response = Answered a.payload; host = record h { sessions = slice_set h.sessions id (Some a.next) } }
+called h id (Ok a) = record {
+  response = Answered a.payload;
+  back = a.back;
+  host = record h { sessions = slice_set h.sessions id (Some a.next) };
+}
 called h id (Err errno) = refused errno h
 
 -- a call in a session, if it is live
-abbrev pub in_session : HostState → ℕ → Option Session → IoctlCode → List ℕ → Answer
-in_session h id None code payload = refused Ebadf h
-in_session h id (Some s) code payload = called h id (ioctl_outcome s code payload)
+abbrev pub in_session : Bool → HostState → ℕ → Option Session → IoctlCode → List ℕ → Answer
+in_session memory h id None code payload = refused Ebadf h
+in_session memory h id (Some s) code payload = called h id (ioctl_outcome memory s code payload)
+
+-- the memories that are queued in a session, if it is live
+abbrev pub memories_of : Option Session → List Held
+memories_of None = []
+memories_of (Some s) = queued_memories s.queues
+
+-- a session is closed, if it is live: all its queues stop
+abbrev pub closed : HostState → ℕ → Option Session → Answer
+closed h id None = refused Ebadf h
+closed h id (Some s) =
+    record { response = Closed; back = queued_memories s.queues; host = without_session h id }
+
+-- a session made few enough frames for one more call
+abbrev pub MadeFew : Option Session → Type 0
+MadeFew None = Unit {0}
+MadeFew (Some s) = s.made < 2 ^ 32 - 32
+
+-- each live session did
+abbrev pub EachMadeFew : HostState → Type 0
+EachMadeFew h = (id : ℕ) → MadeFew (session_of h id)
+
+abbrev pub MostMade : ℕ → Option Session → Type 0
+MostMade n None = Unit {0}
+MostMade n (Some s) = s.made ≤ n
+
+-- each live session made no more frames than this
+abbrev pub EachMadeMost : ℕ → HostState → Type 0
+EachMadeMost n h = (id : ℕ) → MostMade n (session_of h id)
 
 -- ---- calls
 
@@ -71,11 +110,14 @@ abbrev pub FitsCall : Command → Type 0
 FitsCall (Ioctl id code payload) = HasItsLength code payload
 FitsCall c = Unit {0}
 
--- What a call in the session at a key leaves: with the outcome's payload and session where it isn't refused, and else all
--- as it was.
-abbrev pub Calls : Slab Session → Slab Session → ℕ → Result IoctlAnswer Errno → List ℕ → List ℕ → Result (Unit {0}) Errno → Type 0
-Calls old new key (Ok a) payload payload' result = (result ≡ Ok tt) × (payload' ≡ a.payload) × Updates old new key (Some a.next)
-Calls old new key (Err errno) payload payload' result = (result ≡ Err errno) × (payload' ≡ payload) × (new.slots ≡ old.slots)
+-- What a call in the session at a key leaves: the outcome's payload, memories and session where it
+-- isn't refused, and else all as it was.
+abbrev pub Calls : Slab Session → Slab Session → ℕ → Result IoctlAnswer Errno → List ℕ → List ℕ →
+    List Held → List Held → Result (Unit {0}) Errno → Type 0
+Calls old new key (Ok a) payload payload' held held' result =
+    (result ≡ Ok tt) × (payload' ≡ a.payload) × (held' ≡ held ++ a.back) × Updates old new key (Some a.next)
+Calls old new key (Err errno) payload payload' held held' result =
+    (result ≡ Err errno) × (payload' ≡ payload) × (held' ≡ held) × (new.slots ≡ old.slots)
 
 -- the reply to a call with this result and payload
 abbrev pub reply_to : Result (Unit {0}) Errno → List ℕ → Response
@@ -84,13 +126,12 @@ reply_to (Err errno) payload = Refused (errno_number errno)
 
 -- ---- commands
 
--- What a command does. Whether memory came for a new session is free.
+-- What a command does. Whether memory came for a new session or for frames is free.
 abbrev pub performed : Bool → HostState → Command → Answer
 performed memory h OpenSession =
-    if memory then (record { response = Opened (length h.sessions); host = with_session h }) else refused Enomem h
-performed memory h (CloseSession id) =
-    if is_some (session_of h id) then (record { response = Closed; host = without_session h id }) else refused Ebadf h
-performed memory h (Ioctl id code payload) = in_session h id (session_of h id) code payload
+    if memory then reply_alone (Opened (length h.sessions)) (with_session h) else refused Enomem h
+performed memory h (CloseSession id) = closed h id (session_of h id)
+performed memory h (Ioctl id code payload) = in_session memory h id (session_of h id) code payload
 performed memory h (Map id writable offset) = refused (if is_some (session_of h id) then Eopnotsupp else Ebadf) h
 performed memory h (Unmap addr) = refused Eopnotsupp h
 
@@ -106,9 +147,16 @@ abbrev pub answer_to : Bool → HostState → Result Command CmdFault → Answer
 answer_to memory h (Ok c) = performed memory h c
 answer_to memory h (Err f) = refused (errno_of_fault f) h
 
--- The reply and the device after are those of the answer, with memory or without.
-abbrev pub IsGiven : (Bool → Answer) → Response → HostState → Type 0
-IsGiven answer response host = (memory : Bool) × (answer memory ≡ record { response = response; host = host })
+-- The reply, the memories that go back and the device after are those of the answer, with memory or
+-- without.
+abbrev pub IsGiven : (Bool → Answer) → Response → List Held → HostState → Type 0
+IsGiven answer response back host =
+    (memory : Bool) × (answer memory ≡ record { response = response; back = back; host = host })
+
+-- the same where memories go behind what was held
+abbrev pub IsGivenWith : (Bool → Answer) → Response → List Held → List Held → HostState → Type 0
+IsGivenWith answer response held held' host =
+    (back : List Held) × (IsGiven answer response back host × (held' ≡ held ++ back))
 
 -- ---- chains
 
@@ -129,11 +177,14 @@ pub record Sent : Type 0 where
 abbrev pub sent_empty : Parcel → Sent
 sent_empty p = record { used = 0; parcel = p }
 
--- the reply stands at the front of what may be written
-abbrev pub sent_with : Parcel → List Desc → Response → Sent
-sent_with p descs response = record {
+-- the reply stands at the front of what may be written, and memories go along
+abbrev pub sent_with : Parcel → List Desc → Response → List Held → Sent
+sent_with p descs response back = record {
   used = length (response_bytes response);
-  parcel = record p { pages = written descs (response_bytes response) p.pages };
+  parcel = record p {
+    pages = written descs (response_bytes response) p.pages;
+    held = p.held ++ back;
+  };
 }
 
 -- the command that a chain's bytes are, or their first fault
@@ -144,7 +195,9 @@ asked_by descs pages = judged (readable_of descs pages) (writable_bytes descs)
 abbrev pub AnswersIf : Bool → List Desc → Parcel → HostState → Sent → HostState → Type 0
 AnswersIf true descs p h sent h' = (sent ≡ sent_empty p) × (h' ≡ h)
 AnswersIf false descs p h sent h' =
-    (response : Response) × IsGiven (λ memory. answer_to memory h (asked_by descs p.pages)) response h' × (sent ≡ sent_with p descs response)
+    (response : Response) × (back : List Held)
+    × IsGiven (λ memory. answer_to memory h (asked_by descs p.pages)) response back h'
+    × (sent ≡ sent_with p descs response back)
 
 -- A chain with a fault goes back empty too.
 abbrev pub Serves : Result (List Desc) ChainFault → Parcel → HostState → Sent → HostState → Type 0
@@ -174,3 +227,8 @@ Executes (p ∷ ps) h q turn h' q' =
 abbrev pub AsksToOpen : List Parcel → Type 0
 AsksToOpen [] = ⊥
 AsksToOpen (p ∷ ps) = (descs : List Desc) × (chain_in p ≡ Ok descs) × (asked_by descs p.pages ≡ Ok OpenSession)
+
+-- there is room for 64 memories behind those of the chain that waits first, if any
+abbrev pub HasRoom : List Parcel → Type 0
+HasRoom [] = Unit {0}
+HasRoom (p ∷ ps) = length p.held + 64 ≤ p.room

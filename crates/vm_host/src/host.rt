@@ -1,9 +1,9 @@
-ghost use Rattle.std.specs.Prelude.{◌≡◌, ◌≤◌, ◌<◌, ◌*◌, IfOk, length, vec_capacity, Ok, None};
+ghost use Rattle.std.specs.Prelude.{◌≡◌, ◌≤◌, ◌<◌, ◌+◌, ◌*◌, IfOk, length, vec_capacity, Ok, None};
 ghost use Rattle.vm_link.specs.Queue.{queue_at};
 ghost use Rattle.vm_link.specs.declared.link.QueueId.TheVariants.{Command as Commands, Event as Events};
 ghost use Rattle.vm_wire.specs.declared.command.Command.TheVariants.{OpenSession};
 ghost use Rattle.vm_host.specs.Carrier.{StayInPages, Fits, written};
-ghost use Rattle.vm_host.specs.Host.{fresh_host, asked_by, Served, Executes, AsksToOpen};
+ghost use Rattle.vm_host.specs.Host.{fresh_host, asked_by, Served, Executes, AsksToOpen, HasRoom, EachMadeFew};
 
 use crate::carrier::{gather, spread};
 use crate::sessions::Sessions;
@@ -59,6 +59,8 @@ fn answer(sessions: &mut Sessions, chain: &Chain, bytes: &mut Vec<u8>, parcel: &
     requires few { length chain.now.descs ≤ 64 }
     requires room { 262144 ≤ vec_capacity bytes.old }
     requires opens { asked_by chain.now.descs parcel.old.pages ≡ Ok OpenSession → length sessions.old.sessions < sessions.old.opens }
+    requires frames { EachMadeFew sessions.old }
+    requires held { length parcel.old.held + 64 ≤ parcel.old.room }
     ensures served { Served None chain.now.descs parcel.old sessions.old result parcel.new sessions.new }
     ensures room { vec_capacity bytes.old ≤ vec_capacity bytes.new }
 {
@@ -67,7 +69,7 @@ fn answer(sessions: &mut Sessions, chain: &Chain, bytes: &mut Vec<u8>, parcel: &
         return 0;
     }
     gather(chain.descs(), &parcel.pages, bytes);
-    let response = sessions.answer(decode_command(bytes, writable));
+    let response = sessions.answer(decode_command(bytes, writable), &mut parcel.held);
     let mut reply = [0; WIRE_ROOM];
     let len = encode_response(&response, &mut reply);
     write_reply(chain.descs(), parcel, &reply[..len]);
@@ -85,6 +87,8 @@ fn serve(
     requires fits { fault ≡ None → Fits 64 chain.now.descs }
     requires room { 262144 ≤ vec_capacity bytes.old }
     requires opens { fault ≡ None → asked_by chain.now.descs parcel.old.pages ≡ Ok OpenSession → length sessions.old.sessions < sessions.old.opens }
+    requires frames { EachMadeFew sessions.old }
+    requires held { length parcel.old.held + 64 ≤ parcel.old.room }
     ensures served { Served fault chain.now.descs parcel.old sessions.old result parcel.new sessions.new }
     ensures room { vec_capacity bytes.old ≤ vec_capacity bytes.new }
 {
@@ -113,8 +117,10 @@ impl Host {
     }
 
     /// Takes the chain that waits first, does the command that it brings, and sends the reply back. `Idle` exactly where
-    /// none waits. Where the command opens a session, fewer than `opens` sessions were opened before; no other command
-    /// takes memory. The queue of events stays as it was.
+    /// none waits. Where the command opens a session, fewer than `opens` sessions were opened before. Only an open and a
+    /// request for buffers take memory. The chain has room for 64 memories behind those that it holds, and each session
+    /// made fewer than 2^32 - 32 frames: the memories that a command takes out of a session's hands go along with the
+    /// reply. The queue of events stays as it was.
     ///
     /// A chain with a fault, or with fewer than 8 bytes to write, goes back with nothing written. A malformed command is
     /// refused by its fault: EINVAL where it is short, EOPNOTSUPP where its number is unknown, ENOTTY where its code is,
@@ -124,7 +130,9 @@ impl Host {
     ///
     /// Source: own, after the sessions of the VIRTIO 1.4 draft's media device.
     pub fn execute<L: Link>(&mut self, link: &mut L) -> Turn
-        requires { AsksToOpen (queue_at Commands (L.queues link.old)).waiting → length self.old.sessions < self.old.opens }
+        requires opens { AsksToOpen (queue_at Commands (L.queues link.old)).waiting → length self.old.sessions < self.old.opens }
+        requires room { HasRoom (queue_at Commands (L.queues link.old)).waiting }
+        requires frames { EachMadeFew self.old }
         ensures executes { Executes (queue_at Commands (L.queues link.old)).waiting self.old (queue_at Commands (L.queues link.old)) result self.new (queue_at Commands (L.queues link.new)) }
         ensures events { queue_at Events (L.queues link.new) ≡ queue_at Events (L.queues link.old) }
     {

@@ -1,14 +1,15 @@
-ghost use Rattle.std.specs.Prelude.{ℕ, is_some, if◌then◌else◌, ◌≡◌, ◌<◌, ◌≤◌, ◌+◌, Some, None, Ok, Err, Result, IfOk, IfSome, IfNone, IsSome, length, slice_index_or};
+ghost use Rattle.std.specs.Prelude.{ℕ, Bool, is_some, if◌then◌else◌, ◌≡◌, ◌<◌, ◌≤◌, ◌+◌, ◌-◌, ◌^◌, [], ◌++◌, Some, None, Ok, Err, Result, IfOk, IfSome, IfNone, IsSome, length, slice_index_or, vec_len, vec_capacity};
 ghost use Rattle.slab.specs.Slab.{get, slab_len, Updates};
 ghost use Rattle.v4l_const.specs.Errno.{errno_number};
 ghost use Rattle.vm_wire.specs.Payload.{HasItsLength};
 ghost use Rattle.vm_session.specs.Session.{opening_session, ioctl_outcome};
-ghost use Rattle.vm_host.specs.Host.{fresh_host, performed, answer_to, IsGiven, errno_of_fault, FitsCall, session_of, Calls, reply_to};
+ghost use Rattle.vm_host.specs.Host.{fresh_host, performed, answer_to, IsGiven, IsGivenWith, errno_of_fault, FitsCall, session_of, memories_of, EachMadeFew, Calls, reply_to};
 
 use slab::Slab;
 use std::alloc::Global;
 use std::marker::Model;
 use v4l_const::{Errno, IoctlCode, Model as DeviceModel};
+use vm_frame::Held;
 use vm_mem::Memory;
 use vm_session::Session;
 use vm_wire::{CmdFault, Command, Payload, Response};
@@ -80,14 +81,29 @@ fn call_at(
     key: usize,
     code: IoctlCode,
     payload: &mut Payload,
+    held: &mut Vec<Held>,
 ) -> Result<(), Errno>
     requires live { IsSome (get slab.old key) }
     requires payload { HasItsLength code payload.old }
-    ensures calls { (s : Session) → get slab.old key ≡ Some s → Calls slab.old slab.new key (ioctl_outcome s code payload.old) payload.old payload.new result }
+    requires frames { (s : Session) → get slab.old key ≡ Some s → s.made < 2 ^ 32 - 32 }
+    requires room { vec_len held.old + 64 ≤ vec_capacity held.old }
+    ensures calls { (s : Session) → get slab.old key ≡ Some s → (memory : Bool) × Calls slab.old slab.new key (ioctl_outcome memory s code payload.old) payload.old payload.new held.old.items held.new.items result }
     ensures len { slab_len slab.new ≡ slab_len slab.old }
+    ensures capacity { vec_capacity held.new ≡ vec_capacity held.old }
 {
     let session = slab.get_mut(key).unwrap();
-    session.ioctl(code, payload)
+    session.ioctl(code, payload, held)
+}
+
+// Stops a session that is closed, if there is one: the memories that are queued in it go behind what is held.
+fn stop(session: Option<Session>, held: &mut Vec<Held>)
+    requires { vec_len held.old + 64 ≤ vec_capacity held.old }
+    ensures memories { held.new.items ≡ held.old.items ++ memories_of session }
+    ensures capacity { vec_capacity held.new ≡ vec_capacity held.old }
+{
+    if let Some(mut session) = session {
+        session.stop(held);
+    }
 }
 
 // The reply to a call with this outcome and payload.
@@ -123,7 +139,7 @@ impl Sessions {
     // Opens the next session, unless there is no memory for it.
     fn open(&mut self) -> Response
         requires { length self.old.sessions < self.old.opens }
-        ensures { IsGiven (λ memory. performed memory self.old Command.OpenSession) result self.new }
+        ensures { IsGiven (λ memory. performed memory self.old Command.OpenSession) result [] self.new }
     {
         let id = self.keys.len() as u32;
         match insert_session(self.alloc, &mut self.slab, self.model, id) {
@@ -135,13 +151,15 @@ impl Sessions {
         }
     }
 
-    // Closes a session, if it is live.
-    fn close(&mut self, session: u32) -> Response
-        ensures { IsGiven (λ memory. performed memory self.old (Command.CloseSession session)) result self.new }
+    // Closes a session, if it is live. The memories that are queued in it go behind what is held.
+    fn close(&mut self, session: u32, held: &mut Vec<Held>) -> Response
+        requires room { vec_len held.old + 64 ≤ vec_capacity held.old }
+        ensures given { IsGivenWith (λ memory. performed memory self.old (Command.CloseSession session)) result held.old.items held.new.items self.new }
+        ensures capacity { vec_capacity held.new ≡ vec_capacity held.old }
     {
         match key_at(&self.keys, session) {
             Some(key) => {
-                self.slab.try_remove(key);
+                stop(self.slab.try_remove(key), held);
                 self.keys[session as usize] = None;
                 Response::Closed
             }
@@ -149,15 +167,24 @@ impl Sessions {
         }
     }
 
-    // Does a call in a session, if it is live.
-    fn ioctl(&mut self, session: u32, code: IoctlCode, mut payload: Payload) -> Response
-        requires { HasItsLength code payload }
-        ensures { IsGiven (λ memory. performed memory self.old (Command.Ioctl session code payload)) result self.new }
+    // Does a call in a session, if it is live. The memories that it puts back go behind what is held.
+    fn ioctl(
+        &mut self,
+        session: u32,
+        code: IoctlCode,
+        mut payload: Payload,
+        held: &mut Vec<Held>,
+    ) -> Response
+        requires payload { HasItsLength code payload }
+        requires frames { EachMadeFew self.old }
+        requires room { vec_len held.old + 64 ≤ vec_capacity held.old }
+        ensures given { IsGivenWith (λ memory. performed memory self.old (Command.Ioctl session code payload)) result held.old.items held.new.items self.new }
+        ensures capacity { vec_capacity held.new ≡ vec_capacity held.old }
     {
         let Some(key) = key_at(&self.keys, session) else {
             return Response::Refused(Errno::Ebadf.number());
         };
-        let outcome = call_at(&mut self.slab, key, code, &mut payload);
+        let outcome = call_at(&mut self.slab, key, code, &mut payload, held);
         reply_to(outcome, payload)
     }
 
@@ -172,33 +199,43 @@ impl Sessions {
         Response::Refused(errno.number())
     }
 
-    // Does a command.
-    fn perform(&mut self, command: Command) -> Response
+    // Does a command. The memories that go back stand behind what is held.
+    fn perform(&mut self, command: Command, held: &mut Vec<Held>) -> Response
         requires opens { command ≡ Command.OpenSession → length self.old.sessions < self.old.opens }
         requires payload { FitsCall command }
-        ensures { IsGiven (λ memory. performed memory self.old command) result self.new }
+        requires frames { EachMadeFew self.old }
+        requires room { vec_len held.old + 64 ≤ vec_capacity held.old }
+        ensures given { IsGivenWith (λ memory. performed memory self.old command) result held.old.items held.new.items self.new }
+        ensures capacity { vec_capacity held.new ≡ vec_capacity held.old }
     {
         match command {
             Command::OpenSession => self.open(),
-            Command::CloseSession { session } => self.close(session),
+            Command::CloseSession { session } => self.close(session, held),
             Command::Ioctl {
                 session,
                 code,
                 payload,
-            } => self.ioctl(session, code, payload),
+            } => self.ioctl(session, code, payload, held),
             Command::Map { session, .. } => self.refuse_mapping(session),
             Command::Unmap { .. } => Response::Refused(Errno::Eopnotsupp.number()),
         }
     }
 
-    /// Does what the bytes ask, or refuses them.
-    pub(crate) fn answer(&mut self, command: Result<Command, CmdFault>) -> Response
+    /// Does what the bytes ask, or refuses them. The memories that go back stand behind what is held.
+    pub(crate) fn answer(
+        &mut self,
+        command: Result<Command, CmdFault>,
+        held: &mut Vec<Held>,
+    ) -> Response
         requires opens { command ≡ Ok Command.OpenSession → length self.old.sessions < self.old.opens }
         requires payload { IfOk command FitsCall }
-        ensures { IsGiven (λ memory. answer_to memory self.old command) result self.new }
+        requires frames { EachMadeFew self.old }
+        requires room { vec_len held.old + 64 ≤ vec_capacity held.old }
+        ensures given { IsGivenWith (λ memory. answer_to memory self.old command) result held.old.items held.new.items self.new }
+        ensures capacity { vec_capacity held.new ≡ vec_capacity held.old }
     {
         match command {
-            Ok(command) => self.perform(command),
+            Ok(command) => self.perform(command, held),
             Err(fault) => Response::Refused(errno_of(fault).number()),
         }
     }

@@ -1,4 +1,5 @@
-ghost use Rattle.std.specs.Prelude.{◌≡◌, ◌<◌, ◌≤◌, ◌+◌, OnOk, length};
+ghost use Rattle.std.specs.Prelude.{ℕ, ◌≡◌, ◌<◌, ◌≤◌, ◌+◌, OnOk, length};
+ghost use Rattle.vm_host.specs.Host.{EachMadeFew, EachMadeMost};
 
 use super::*;
 use std::alloc::Global;
@@ -82,6 +83,8 @@ fn answer(
     requires some { 1 ≤ length descs.now }
     requires few { length descs.now ≤ 4 }
     requires opens { length host.old.sessions < host.old.opens }
+    requires frames { EachMadeFew host.old }
+    ensures frames { OnOk result ((n : ℕ) → EachMadeMost n host.old → EachMadeMost (n + 32) host.new) }
     ensures opens { OnOk result (host.new.opens ≡ host.old.opens) }
     ensures sessions { OnOk result (length host.new.sessions ≤ length host.old.sessions + 1) }
 {
@@ -101,7 +104,7 @@ fn answer(
             who: 0,
             table,
             pages,
-            held: Vec::new(alloc),
+            held: Vec::with_capacity(alloc, 64)?,
         },
     );
     host.execute(&mut link);
@@ -124,7 +127,7 @@ fn commands_are_answered(rt: HostRuntime) -> Result<(), Fail> {
         ([2, 0, 0, 0, 0, 0, 0, 0, 0, 0], 15, 64, 8, status(22)),
         ([2, 0, 5, 0, 0, 0, 0, 0, 0, 0], 16, 64, 8, status(9)),
         // The calls of a session: an unknown code, a payload that is cut, little room, two inputs, the bytes behind
-        // a payload, a call that isn't built, a dead session.
+        // a payload, buffers, a call that isn't built, a dead session.
         ([3, 0, 0, 17, 0, 0, 0, 0, 0, 0], 40, 64, 8, status(25)),
         ([3, 0, 0, 38, 0, 0, 0, 0, 0, 0], 15, 64, 8, status(22)),
         ([3, 0, 0, 38, 0, 0, 0, 0, 0, 0], 19, 64, 8, status(22)),
@@ -132,7 +135,8 @@ fn commands_are_answered(rt: HostRuntime) -> Result<(), Fail> {
         ([3, 0, 0, 39, 2, 0, 0, 0, 0, 0], 20, 64, 12, told(2)),
         ([3, 0, 0, 39, 4, 0, 0, 0, 0, 0], 20, 64, 8, status(22)),
         ([3, 0, 0, 38, 0, 0, 0, 0, 0, 0], 24, 64, 12, told(2)),
-        ([3, 0, 0, 8, 1, 1, 1, 0, 0, 0], 36, 64, 8, status(95)),
+        ([3, 0, 0, 8, 1, 1, 1, 0, 0, 0], 36, 64, 28, [0, 0, 1, 1, 1, 19]),
+        ([3, 0, 0, 18, 1, 0, 0, 0, 0, 0], 20, 64, 8, status(95)),
         ([3, 0, 1, 8, 1, 1, 1, 0, 0, 0], 36, 64, 8, status(9)),
         ([3, 0, 1, 38, 0, 0, 0, 0, 0, 0], 20, 64, 8, status(9)),
         ([4, 0, 0, 1, 0, 0, 0, 0, 0, 0], 24, 64, 8, status(95)),

@@ -1,2 +1,4 @@
+pub mod CallLemmas
+pub mod FrameLemmas
 pub mod ReadBackLemmas
 pub mod SizeLemmas

@@ -1,12 +1,14 @@
 -- What a call reads from the payload of its request is what the request asks for: its row has the words that were put in.
 use Rattle.std.proofs.Common.{◌≡◌, ℕ, ◌<◌, ◌^◌, List, refl, ap, ◌∙◌}
 use Rattle.v4l_const.specs.declared.four_cc.FourCc.{FourCc}
-use Rattle.v4l_const.specs.declared.ioctl_code.IoctlCode.TheVariants.{QueryCap, EnumFmt, GFmt, SFmt, TryFmt, EnumInput, GInput, SInput}
-use Rattle.v4l_layout.specs.Records.{fmtdesc_bytes, format_bytes, input_bytes}
+use Rattle.v4l_const.specs.declared.ioctl_code.IoctlCode.TheVariants.{QueryCap, EnumFmt, GFmt, SFmt, TryFmt, EnumInput, GInput, SInput, ReqBufs, QueryBuf}
+use Rattle.v4l_layout.specs.Records.{fmtdesc_bytes, format_bytes, input_bytes, request_bytes, buffer_bytes}
+use Rattle.vm_wire.proofs.BufferLemmas.{reqbufs_reads, querybuf_reads}
+use Rattle.vm_wire.specs.Buffers.{reqbufs_request, querybuf_request}
 use Rattle.vm_wire.proofs.RecordLemmas.{number_reads_back, fmt_desc_index, fmt_desc_type, format_type_alone, format_type, format_width, format_height, format_code, input_index}
 use Rattle.vm_wire.specs.Records.{fmt_desc_request, format_request, format_type_request, input_request}
 use Rattle.vm_wire.specs.Wire.{le, number_at}
-use Rattle.vm_session.specs.Session.{SessionState, IoctlRow, code_at, ioctl_row, querycap_row, enumfmt_row, gfmt_row, tryfmt_row, sfmt_row, enuminput_row, ginput_row, sinput_row}
+use Rattle.vm_session.specs.Session.{SessionState, IoctlRow, code_at, ioctl_row, querycap_row, enumfmt_row, gfmt_row, tryfmt_row, sfmt_row, enuminput_row, ginput_row, sinput_row, reqbufs_row, querybuf_row}
 
 pub querycap_reads : (s : SessionState) (payload : List ℕ) → ioctl_row s QueryCap payload ≡ querycap_row s
 querycap_reads s payload = refl
@@ -47,3 +49,15 @@ ginput_reads s payload = refl
 
 pub sinput_reads : (s : SessionState) (i : ℕ) → i < 2 ^ 32 → ioctl_row s SInput (le i) ≡ sinput_row s i
 sinput_reads s i small = ap (λ x. sinput_row s x) (number_reads_back i small)
+
+pub reqbufs_call_reads : (s : SessionState) (t m n : ℕ) → t < 2 ^ 32 → m < 2 ^ 32 → n < 2 ^ 32 →
+    ioctl_row s ReqBufs (request_bytes (reqbufs_request t m n)) ≡ reqbufs_row s t m n
+unfolding reqbufs_request
+reqbufs_call_reads s t m n small_t small_m small_n =
+    ap (λ r. reqbufs_row s r.kind r.memory r.count) (reqbufs_reads t m n small_t small_m small_n)
+
+pub querybuf_call_reads : (s : SessionState) (t i : ℕ) → t < 2 ^ 32 → i < 2 ^ 32 →
+    ioctl_row s QueryBuf (buffer_bytes (querybuf_request t i)) ≡ querybuf_row s t i
+unfolding querybuf_request
+querybuf_call_reads s t i small_t small_i =
+    ap (λ b. querybuf_row s b.kind b.index) (querybuf_reads t i small_t small_i)

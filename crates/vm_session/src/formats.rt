@@ -4,10 +4,10 @@ ghost use Rattle.std.specs.Prelude.{◌≡◌, IfOk, IfErr, IfSome, OnErr, Ok, E
 ghost use Rattle.v4l_format.specs.Fmt.{IsAdjusted};
 ghost use Rattle.v4l_layout.specs.Records.{capability_size, fmtdesc_size, format_size};
 ghost use Rattle.v4l_rules.specs.Formats.{source_format, with_format_at};
-ghost use Rattle.vm_session.specs.Session.{queue_kind, adjusted_for, with_set_format, querycap_row, enumfmt_row, gfmt_row, tryfmt_row, sfmt_row, outcome_of};
+ghost use Rattle.vm_session.specs.Session.{queue_kind, adjusted_for, with_set_format, querycap_row, enumfmt_row, gfmt_row, tryfmt_row, sfmt_row, Answers, Refuses};
 
 use crate::Session;
-use crate::queue::set_format_at;
+use crate::queues::{have_buffers, set_format_at};
 use v4l_const::{Errno, FourCc};
 use v4l_format::{Fmt, nth_format};
 use v4l_rules::{adjust_from, is_source, place_in, sized_as};
@@ -20,7 +20,7 @@ impl Session {
     /// What the device is.
     #[tactic(auto, unfolding(crate::specs::Session::querycap_row))]
     pub(crate) fn querycap(&self) -> Payload
-        ensures value { outcome_of (querycap_row self.now) ≡ Ok (record { payload = result; next = self.now }) }
+        ensures value { Answers (querycap_row self.now) result self.now }
         ensures size { length result ≡ capability_size }
     {
         capability_payload(&capability_of(self.model))
@@ -29,8 +29,8 @@ impl Session {
     /// The format in place `i` of the queue of type `t`.
     #[tactic(auto, unfolding(crate::specs::Session::enumfmt_row))]
     pub(crate) fn enumfmt(&self, t: u32, i: u32) -> Result<Payload, Errno>
-        ensures ok { IfOk result (λ payload. outcome_of (enumfmt_row self.now t i) ≡ Ok (record { payload = payload; next = self.now })) }
-        ensures err { IfErr result (λ e. outcome_of (enumfmt_row self.now t i) ≡ Err e) }
+        ensures ok { IfOk result (λ payload. Answers (enumfmt_row self.now t i) payload self.now) }
+        ensures err { IfErr result (λ e. Refuses (enumfmt_row self.now t i) e) }
         ensures size { IfOk result (λ payload. length payload ≡ fmtdesc_size) }
     {
         self.check_type(t)?;
@@ -43,8 +43,8 @@ impl Session {
     /// The format of the queue of type `t`.
     #[tactic(auto, unfolding(crate::specs::Session::gfmt_row))]
     pub(crate) fn gfmt(&self, t: u32) -> Result<Payload, Errno>
-        ensures ok { IfOk result (λ payload. outcome_of (gfmt_row self.now t) ≡ Ok (record { payload = payload; next = self.now })) }
-        ensures err { IfErr result (λ e. outcome_of (gfmt_row self.now t) ≡ Err e) }
+        ensures ok { IfOk result (λ payload. Answers (gfmt_row self.now t) payload self.now) }
+        ensures err { IfErr result (λ e. Refuses (gfmt_row self.now t) e) }
         ensures size { IfOk result (λ payload. length payload ≡ format_size) }
     {
         self.check_type(t)?;
@@ -54,8 +54,8 @@ impl Session {
     /// The format that the queue of type `t` would take where it were asked for this one.
     #[tactic(auto, unfolding(crate::specs::Session::tryfmt_row))]
     pub(crate) fn tryfmt(&self, t: u32, f: FourCc, w: u32, h: u32) -> Result<Payload, Errno>
-        ensures ok { IfOk result (λ payload. outcome_of (tryfmt_row self.now t f w h) ≡ Ok (record { payload = payload; next = self.now })) }
-        ensures err { IfErr result (λ e. outcome_of (tryfmt_row self.now t f w h) ≡ Err e) }
+        ensures ok { IfOk result (λ payload. Answers (tryfmt_row self.now t f w h) payload self.now) }
+        ensures err { IfErr result (λ e. Refuses (tryfmt_row self.now t f w h) e) }
         ensures size { IfOk result (λ payload. length payload ≡ format_size) }
     {
         self.check_type(t)?;
@@ -63,15 +63,19 @@ impl Session {
         Ok(format_payload(&format_answer(t, &format)))
     }
 
-    /// Sets the format of the queue of type `t` to the one that it takes where it is asked for this one.
+    /// Sets the format of the queue of type `t` to the one that it takes where it is asked for
+    /// this one, unless a queue has buffers.
     #[tactic(auto, unfolding(crate::specs::Session::sfmt_row))]
     pub(crate) fn sfmt(&mut self, t: u32, f: FourCc, w: u32, h: u32) -> Result<Payload, Errno>
-        ensures ok { IfOk result (λ payload. outcome_of (sfmt_row self.old t f w h) ≡ Ok (record { payload = payload; next = self.new })) }
-        ensures err { IfErr result (λ e. outcome_of (sfmt_row self.old t f w h) ≡ Err e) }
+        ensures ok { IfOk result (λ payload. Answers (sfmt_row self.old t f w h) payload self.new) }
+        ensures err { IfErr result (λ e. Refuses (sfmt_row self.old t f w h) e) }
         ensures kept { OnErr result (self.new ≡ self.old) }
         ensures size { IfOk result (λ payload. length payload ≡ format_size) }
     {
         self.check_type(t)?;
+        if have_buffers(&self.queues) {
+            return Err(Errno::Ebusy);
+        }
         let format = self.adjusted_for(t, f, w, h);
         self.set_format(t, format);
         Ok(format_payload(&format_answer(t, &format)))
@@ -96,8 +100,8 @@ impl Session {
         }
     }
 
-    /// Sets the format of the queue of type `t`. Where the device makes its pictures from that queue's, they get
-    /// its size.
+    /// Sets the format of the queue of type `t`. Where the device makes its pictures from that
+    /// queue's, they get its size.
     #[tactic(auto, unfolding(v4l_rules::specs::Formats::with_set_format_at))]
     fn set_format(&mut self, t: u32, format: Fmt)
         requires { IsAdjusted format }

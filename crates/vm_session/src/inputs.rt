@@ -5,9 +5,10 @@ ghost use Rattle.v4l_const.specs.declared.errno.Errno.{Errno};
 ghost use Rattle.v4l_const.specs.Model.{has_inputs};
 ghost use Rattle.v4l_layout.specs.Records.{input_size};
 ghost use Rattle.v4l_rules.specs.Refusals.{first_refusal, no_inputs, no_input};
-ghost use Rattle.vm_session.specs.Session.{enuminput_row, ginput_row, sinput_row, outcome_of};
+ghost use Rattle.vm_session.specs.Session.{enuminput_row, ginput_row, sinput_row, Answers, Refuses};
 
 use crate::Session;
+use crate::queues::are_streaming;
 use v4l_const::{Errno, INPUT_COUNT};
 use vm_wire::{Payload, input_answer, input_payload, number_payload};
 
@@ -15,8 +16,8 @@ impl Session {
     /// The input in place `i`.
     #[tactic(auto, unfolding(crate::specs::Session::enuminput_row))]
     pub(crate) fn enuminput(&self, i: u32) -> Result<Payload, Errno>
-        ensures ok { IfOk result (λ payload. outcome_of (enuminput_row self.now i) ≡ Ok (record { payload = payload; next = self.now })) }
-        ensures err { IfErr result (λ e. outcome_of (enuminput_row self.now i) ≡ Err e) }
+        ensures ok { IfOk result (λ payload. Answers (enuminput_row self.now i) payload self.now) }
+        ensures err { IfErr result (λ e. Refuses (enuminput_row self.now i) e) }
         ensures size { IfOk result (λ payload. length payload ≡ input_size) }
     {
         self.check_input(i)?;
@@ -26,23 +27,26 @@ impl Session {
     /// The input that is chosen.
     #[tactic(auto, unfolding(crate::specs::Session::ginput_row))]
     pub(crate) fn ginput(&self) -> Result<Payload, Errno>
-        ensures ok { IfOk result (λ payload. outcome_of (ginput_row self.now) ≡ Ok (record { payload = payload; next = self.now })) }
-        ensures err { IfErr result (λ e. outcome_of (ginput_row self.now) ≡ Err e) }
+        ensures ok { IfOk result (λ payload. Answers (ginput_row self.now) payload self.now) }
+        ensures err { IfErr result (λ e. Refuses (ginput_row self.now) e) }
         ensures size { IfOk result (λ payload. length payload ≡ 4) }
     {
         self.check_inputs()?;
         Ok(number_payload(self.input))
     }
 
-    /// Chooses the input in place `i`.
+    /// Chooses the input in place `i`, unless a queue streams.
     #[tactic(auto, unfolding(crate::specs::Session::sinput_row))]
     pub(crate) fn sinput(&mut self, i: u32) -> Result<Payload, Errno>
-        ensures ok { IfOk result (λ payload. outcome_of (sinput_row self.old i) ≡ Ok (record { payload = payload; next = self.new })) }
-        ensures err { IfErr result (λ e. outcome_of (sinput_row self.old i) ≡ Err e) }
+        ensures ok { IfOk result (λ payload. Answers (sinput_row self.old i) payload self.new) }
+        ensures err { IfErr result (λ e. Refuses (sinput_row self.old i) e) }
         ensures kept { OnErr result (self.new ≡ self.old) }
         ensures size { IfOk result (λ payload. length payload ≡ 4) }
     {
         self.check_input(i)?;
+        if are_streaming(&self.queues) {
+            return Err(Errno::Ebusy);
+        }
         self.input = i;
         Ok(number_payload(i))
     }

@@ -4,7 +4,8 @@ ghost use Rattle.v4l_format.specs.Fmt.{IsAdjusted};
 ghost use Rattle.v4l_rules.specs.Queues.{has_type};
 ghost use Rattle.vm_session.specs.Session.{opening_session, queue_of};
 
-use crate::queue::{Queue, format_at, opening_queues};
+use crate::queue::Queue;
+use crate::queues::{format_at, opening_queues};
 use std::alloc::Global;
 use std::marker::Model;
 use v4l_const::Errno;
@@ -15,11 +16,14 @@ use vm_mem::Memory;
 /// What the device keeps for one open handle of a guest.
 #[derive(Drop)]
 pub struct Session {
+    pub(crate) alloc: Global,
     pub(crate) model: v4l_const::Model,
     pub(crate) id: u32,
     pub(crate) input: u32,
     // In the order of the model's buffer types.
     pub(crate) queues: Vec<Queue>,
+    // How many frames were made, which have the tags from the id times 2^32 on.
+    pub(crate) made: u32,
 }
 
 impl Model for Session {
@@ -30,14 +34,21 @@ impl Model for Session {
 
     ghost Value = { SessionState };
 
-    ghost view = { λ s. record { model = s.model; id = s.id; input = s.input; queues = s.queues.items } };
+    ghost view = { λ s. record {
+      model = s.model;
+      id = s.id;
+      input = s.input;
+      queues = s.queues.items;
+      made = s.made;
+    } };
 
-    ghost invariant = { λ s. (s.input < length patterns) × (length s.queues.items ≡ length (types_of s.model)) };
+    ghost invariant = { λ s.
+        (s.input < length patterns) × (length s.queues.items ≡ length (types_of s.model)) };
 }
 
 impl Session {
-    /// A session of a device of this model as it is opened: input 0, and GREY 64 by 48 on every queue. The wire names
-    /// it by `id`.
+    /// A session of a device of this model as it is opened: input 0, and GREY 64 by 48 on every
+    /// queue. The wire names it by `id`.
     ///
     /// # Errors
     /// `Memory` where the memory for the queues can't be had.
@@ -45,10 +56,12 @@ impl Session {
         ensures { IfOk result (λ session. session ≡ opening_session model id) }
     {
         Ok(Session {
+            alloc,
             model,
             id,
             input: 0,
             queues: opening_queues(alloc, model.queues().len())?,
+            made: 0,
         })
     }
 

@@ -1,17 +1,23 @@
-// Each call with good words and with each refusal. Numbers and texts are worked by hand from the tables of the interface
-// and of the formats.
+// Each call with good words and with each refusal. Numbers and texts are worked by hand from the
+// tables of the interface and of the formats.
+
+ghost use Rattle.std.specs.Prelude.{◌≡◌, length};
 
 use crate::Session;
+use std::alloc::Global;
 use std::test::Fail;
 use v4l_const::{Errno, FourCc, IoctlCode, Model};
 use v4l_layout::{
     Capability, FmtDesc, FormatRec, InputRec, padded, read_capability, read_fmtdesc, read_format,
     read_input,
 };
+use vm_frame::Held;
 use vm_wire::{
     Payload, fmt_desc_request, fmtdesc_payload, format_payload, format_request,
     format_type_request, input_payload, input_request, number_payload,
 };
+
+mod buffers;
 
 const CAP: u32 = 1;
 
@@ -28,6 +34,33 @@ const RGB3: FourCc = FourCc(0x3342_4752);
 // The letters ABCD.
 const UNKNOWN: FourCc = FourCc(0x4443_4241);
 
+// A session with what it gives back.
+#[derive(Drop)]
+struct Opened {
+    session: Session,
+    held: Vec<Held>,
+}
+
+fn open_session(alloc: Global, model: Model, id: u32) -> Result<Opened, Fail> {
+    Ok(Opened {
+        session: Session::new(alloc, model, id)?,
+        held: Vec::with_capacity(alloc, 128)?,
+    })
+}
+
+// Calls the session, where the call's conditions are met; EIO, which no call answers, says that
+// they aren't.
+fn call(opened: &mut Opened, code: IoctlCode, payload: &mut Payload) -> Result<(), Errno>
+    ensures { length payload.new ≡ length payload.old }
+{
+    let sized = payload.as_bytes().len() == code.payload_size() as usize;
+    let roomy = opened.held.capacity() - opened.held.len() >= 64;
+    if opened.session.made > 1000 || !sized || !roomy {
+        return Err(Errno::Eio);
+    }
+    opened.session.ioctl(code, payload, &mut opened.held)
+}
+
 // What a record tells of a format: code, width, height, bytes of a row, bytes of a picture.
 type Told = Result<(FourCc, u32, u32, u32, u32), Errno>;
 
@@ -43,55 +76,58 @@ fn told(t: u32, record: FormatRec) -> (FourCc, u32, u32, u32, u32) {
     )
 }
 
-fn gfmt(session: &mut Session, t: u32) -> Told {
+fn gfmt(session: &mut Opened, t: u32) -> Told {
     let mut payload = format_payload(&format_type_request(t));
-    session.ioctl(IoctlCode::GFmt, &mut payload)?;
+    call(session, IoctlCode::GFmt, &mut payload)?;
     Ok(told(t, read_format(payload.as_bytes()).unwrap()))
 }
 
-fn tryfmt(session: &mut Session, t: u32, f: FourCc, w: u32, h: u32) -> Told {
+fn tryfmt(session: &mut Opened, t: u32, f: FourCc, w: u32, h: u32) -> Told {
     let mut payload = format_payload(&format_request(t, f, w, h));
-    session.ioctl(IoctlCode::TryFmt, &mut payload)?;
+    call(session, IoctlCode::TryFmt, &mut payload)?;
     Ok(told(t, read_format(payload.as_bytes()).unwrap()))
 }
 
-fn sfmt(session: &mut Session, t: u32, f: FourCc, w: u32, h: u32) -> Told {
+fn sfmt(session: &mut Opened, t: u32, f: FourCc, w: u32, h: u32) -> Told {
     let mut payload = format_payload(&format_request(t, f, w, h));
-    session.ioctl(IoctlCode::SFmt, &mut payload)?;
+    call(session, IoctlCode::SFmt, &mut payload)?;
     Ok(told(t, read_format(payload.as_bytes()).unwrap()))
 }
 
-fn enumfmt(session: &mut Session, t: u32, i: u32) -> Result<FmtDesc, Errno> {
+fn enumfmt(session: &mut Opened, t: u32, i: u32) -> Result<FmtDesc, Errno> {
     let mut payload = fmtdesc_payload(&fmt_desc_request(t, i));
-    session.ioctl(IoctlCode::EnumFmt, &mut payload)?;
+    call(session, IoctlCode::EnumFmt, &mut payload)?;
     Ok(read_fmtdesc(payload.as_bytes()).unwrap())
 }
 
-fn enuminput(session: &mut Session, i: u32) -> Result<InputRec, Errno> {
+fn enuminput(session: &mut Opened, i: u32) -> Result<InputRec, Errno> {
     let mut payload = input_payload(&input_request(i));
-    session.ioctl(IoctlCode::EnumInput, &mut payload)?;
+    call(session, IoctlCode::EnumInput, &mut payload)?;
     Ok(read_input(payload.as_bytes()).unwrap())
 }
 
 // The payload that answers G_INPUT.
-fn ginput(session: &mut Session) -> Result<Payload, Errno> {
+fn ginput(session: &mut Opened) -> Result<Payload, Errno> {
     let mut payload = number_payload(0);
-    session.ioctl(IoctlCode::GInput, &mut payload)?;
+    call(session, IoctlCode::GInput, &mut payload)?;
     Ok(payload)
 }
 
 // The payload that answers S_INPUT.
-fn sinput(session: &mut Session, i: u32) -> Result<Payload, Errno> {
+fn sinput(session: &mut Opened, i: u32) -> Result<Payload, Errno> {
     let mut payload = number_payload(i);
-    session.ioctl(IoctlCode::SInput, &mut payload)?;
+    call(session, IoctlCode::SInput, &mut payload)?;
     Ok(payload)
 }
 
 #[test]
 fn the_device_is_told(rt: HostRuntime) -> Result<(), Fail> {
-    let mut session = Session::new(rt.alloc(), Model::Capture, 0)?;
+    let mut session = open_session(rt.alloc(), Model::Capture, 0)?;
     let mut payload = Payload::zeros(104);
-    assert_eq!(rt; session.ioctl(IoctlCode::QueryCap, &mut payload), Ok(()));
+    assert_eq!(rt;
+        call(&mut session, IoctlCode::QueryCap, &mut payload),
+        Ok(())
+    );
     let want = Capability {
         driver: *b"vmedia\0\0\0\0\0\0\0\0\0\0",
         card: *b"vmedia capture\0\0\0\0\0\0\0\0\0\0\0\0\0\0\0\0\0\0",
@@ -106,7 +142,7 @@ fn the_device_is_told(rt: HostRuntime) -> Result<(), Fail> {
 
 #[test]
 fn formats_are_told_tried_and_set(rt: HostRuntime) -> Result<(), Fail> {
-    let mut session = Session::new(rt.alloc(), Model::Capture, 7)?;
+    let mut session = open_session(rt.alloc(), Model::Capture, 7)?;
     let first = Ok((GREY, 64, 48, 64, 3072));
     assert_eq!(rt; gfmt(&mut session, CAP), first);
     let tried = [
@@ -133,7 +169,7 @@ fn formats_are_told_tried_and_set(rt: HostRuntime) -> Result<(), Fail> {
 
 #[test]
 fn a_source_gives_its_size_to_the_pictures(rt: HostRuntime) -> Result<(), Fail> {
-    let mut session = Session::new(rt.alloc(), Model::Convert, 0)?;
+    let mut session = open_session(rt.alloc(), Model::Convert, 0)?;
     assert_eq!(rt;
         sfmt(&mut session, CAP, RGB3, 64, 48),
         Ok((RGB3, 64, 48, 192, 9216))
@@ -163,7 +199,7 @@ fn a_source_gives_its_size_to_the_pictures(rt: HostRuntime) -> Result<(), Fail> 
 
 #[test]
 fn formats_are_listed(rt: HostRuntime) -> Result<(), Fail> {
-    let mut session = Session::new(rt.alloc(), Model::Capture, 0)?;
+    let mut session = open_session(rt.alloc(), Model::Capture, 0)?;
     let letters = ["GREY", "YUYV", "UYVY", "NV12", "YU12", "RGB3"];
     let codes = [
         0x5945_5247,
@@ -191,7 +227,7 @@ fn formats_are_listed(rt: HostRuntime) -> Result<(), Fail> {
 
 #[test]
 fn inputs_are_listed_and_chosen(rt: HostRuntime) -> Result<(), Fail> {
-    let mut session = Session::new(rt.alloc(), Model::Capture, 0)?;
+    let mut session = open_session(rt.alloc(), Model::Capture, 0)?;
     for (i, name) in [(0, "bars"), (1, "ramp"), (2, "checker"), (3, "count")] {
         let want = InputRec {
             index: i,
@@ -209,7 +245,7 @@ fn inputs_are_listed_and_chosen(rt: HostRuntime) -> Result<(), Fail> {
         // A refused call chooses nothing.
         assert_eq!(rt; ginput(&mut session), Ok(Payload::new(&[3, 0, 0, 0])));
     }
-    let mut converter = Session::new(rt.alloc(), Model::Convert, 0)?;
+    let mut converter = open_session(rt.alloc(), Model::Convert, 0)?;
     for i in [0, 4] {
         assert_eq!(rt; enuminput(&mut converter, i), Err(Errno::Enotty));
         assert_eq!(rt; sinput(&mut converter, i), Err(Errno::Enotty));
@@ -220,14 +256,14 @@ fn inputs_are_listed_and_chosen(rt: HostRuntime) -> Result<(), Fail> {
 
 #[test]
 fn bytes_are_read_at_their_offsets(rt: HostRuntime) -> Result<(), Fail> {
-    let mut session = Session::new(rt.alloc(), Model::Capture, 0)?;
+    let mut session = open_session(rt.alloc(), Model::Capture, 0)?;
     // Type 1, 641 by 1, "ABCD"; the bytes that no field has are ignored.
     let mut bytes = [0xee; 208];
     bytes[..20].copy_from_slice(&[
         1, 0, 0, 0, 9, 9, 9, 9, 0x81, 2, 0, 0, 1, 0, 0, 0, 65, 66, 67, 68,
     ]);
     let mut payload = Payload::new(&bytes);
-    assert_eq!(rt; session.ioctl(IoctlCode::SFmt, &mut payload), Ok(()));
+    assert_eq!(rt; call(&mut session, IoctlCode::SFmt, &mut payload), Ok(()));
     // 640 by 16, "GREY", field 1, 640 bytes a row, 10240 a picture.
     let mut want = [0; 208];
     want[..20].copy_from_slice(&[
@@ -238,11 +274,11 @@ fn bytes_are_read_at_their_offsets(rt: HostRuntime) -> Result<(), Fail> {
     // A refused call leaves the payload as it was, and so does one that isn't there yet.
     let mut number = number_payload(4);
     assert_eq!(rt;
-        session.ioctl(IoctlCode::SInput, &mut number),
+        call(&mut session, IoctlCode::SInput, &mut number),
         Err(Errno::Einval)
     );
     assert_eq!(rt;
-        session.ioctl(IoctlCode::StreamOn, &mut number),
+        call(&mut session, IoctlCode::StreamOn, &mut number),
         Err(Errno::Eopnotsupp)
     );
     assert_eq!(rt; number, number_payload(4));

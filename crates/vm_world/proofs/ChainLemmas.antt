@@ -20,6 +20,7 @@ use Rattle.vm_host.specs.Carrier.{readable_of, written}
 use Rattle.vm_host.specs.Sessions.{HostState}
 use Rattle.vm_host.specs.Host.{Sent, chain_in, asked_by, answer_to, performed, Serves, sent_with}
 use Rattle.vm_host.specs.Part.{ask_by, request_of}
+use Rattle.vm_frame.specs.declared.mem.Held.{Held}
 use Rattle.vm_guest.specs.Chain.{command_page, reply_page, chain_of, chain_table, chain_pages, IsChain, Carries, reply_of}
 
 pub take-front : {A : Type 0} (xs ys : List A) → take (length xs) (xs ++ ys) ≡ xs
@@ -121,8 +122,9 @@ request_posted p c parcel fits carries =
 pub record IsPerformed (p : ℕ) (c : Command) (parcel : Parcel) (host : HostState) (sent : Sent) (host' : HostState) : Type 0 where
   pub memory : Bool
   pub response : Response
-  pub does : performed memory host c ≡ record { response = response; host = host' }
-  pub sent_is : sent ≡ sent_with parcel (chain_table p (length (command_bytes c))) response
+  pub back : List Held
+  pub does : performed memory host c ≡ record { response = response; back = back; host = host' }
+  pub sent_is : sent ≡ sent_with parcel (chain_table p (length (command_bytes c))) response back
 
 pub served_posted : (p : ℕ) (c : Command) (parcel : Parcel) (host : HostState) (sent : Sent) (host' : HostState) → IsCommand c → Carries p c parcel
     → Serves (chain_in parcel) parcel host sent host' → IsPerformed p c parcel host sent host'
@@ -134,10 +136,11 @@ served_posted p c parcel host sent host' fits carries serves =
     (let Q : Result (List Desc) ChainFault → Type 0 = λ r. Serves r chain host sent host' in
     let done = subst Q (posted_walked p c carries.behind carries.reply carries.room fits) served in
     record {
-      memory = done.1.0;
+      memory = done.2.0;
       response = done.0;
-      does = ap (answer_to done.1.0 host) (sym (posted_command p c carries.behind carries.reply fits)) ∙ done.1.1;
-      sent_is = done.2;
+      back = done.1;
+      does = ap (answer_to done.2.0 host) (sym (posted_command p c carries.behind carries.reply fits)) ∙ done.2.1;
+      sent_is = done.3;
     }) in
     subst P (sym carries.is) there serves
 
@@ -151,7 +154,7 @@ pub record IsBrought (p head : ℕ) (response : Response) (sent : Sent) : Type 0
 
 -- the response stands at the front of the second page
 pub brought : (p : ℕ) (c : Command) (parcel : Parcel) (sent : Sent) (response : Response) (head : ℕ) → IsCommand c → MayReply c response → Carries p c parcel
-    → sent ≡ sent_with parcel (chain_table p (length (command_bytes c))) response → IsBrought p head response sent
+    → sent ≡ sent_with parcel (chain_table p (length (command_bytes c))) response [] → IsBrought p head response sent
 brought p c parcel sent response head fits may carries sent_is =
     let n : ℕ = length (command_bytes c) in
     let command : List ℕ = command_bytes c ++ carries.behind in
@@ -160,8 +163,8 @@ brought p c parcel sent response head fits may carries sent_is =
     let here : Parcel = chain_of p n command (response_bytes response ++ back) carries.room in
     let pages : written (chain_table p n) (response_bytes response) (chain_pages p command carries.reply) ≡ chain_pages p command (response_bytes response ++ back) =
     two_written p n command carries.reply (response_bytes response) small in
-    let is : sent_with parcel (chain_table p n) response ≡ record { used = length (response_bytes response); parcel = here } =
-    ap (λ (x : Parcel). sent_with x (chain_table p n) response) carries.is
+    let is : sent_with parcel (chain_table p n) response [] ≡ record { used = length (response_bytes response); parcel = here } =
+    ap (λ (x : Parcel). sent_with x (chain_table p n) response []) carries.is
     ∙ ap (λ (ps : List Page). record { used = length (response_bytes response); parcel = record here { pages = ps } }) pages in
     let P : Sent → Type 0 = λ s. IsBrought p head response s in
     subst P (sym (sent_is ∙ is)) (record {

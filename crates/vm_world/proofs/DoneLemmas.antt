@@ -39,10 +39,11 @@ use Rattle.vm_handle.proofs.RangeLemmas.{local_model}
 use Rattle.vm_script.specs.Reading.{IsBuilt}
 use Rattle.vm_local.specs.Log.{IsLegal}
 use Rattle.vm_local.specs.declared.entry.Entry.TheVariants.{Called}
-use Rattle.vm_world.specs.Sound.{Seat, seat_of, seat_at, session_in, session_count, opened_with, Stands, IsLive, StandsIf, StandsFor, SeatedBy, IsSeated, Agrees}
+use Rattle.vm_world.specs.Sound.{Seat, seat_of, seat_at, session_in, session_count, opened_with, fresh_with, Stands, IsLive, StandsIf, StandsFor, SeatedBy, IsSeated, Agrees}
 use Rattle.vm_world.proofs.AgreeLemmas.{agrees_opened, agrees_changed, agrees_same}
 use Rattle.vm_world.proofs.AnswerLemmas.{AnswersAs, querycap_answers, enumfmt_answers, gfmt_answers, tryfmt_answers, sfmt_answers, enuminput_answers, ginput_answers, sinput_answers}
 use Rattle.vm_world.proofs.SeatLemmas.{with_seat, IsPlace}
+use Rattle.vm_world.proofs.StandsLemmas.{none_held}
 
 -- where a call leads, the log leads with it
 pub local_next : (handle : HandleState) (line : ℕ) (call : Call) (reply : Reply) (t : LocalState) → IsLegal handle.model handle.entries → IsCall (local_of handle) line call reply t
@@ -71,6 +72,7 @@ pub record IsDone (host : HostState) (seats : List (List Seat)) (n h : ℕ) (han
   pub fits : MayReply c answer.response
   pub agrees : Agrees answer.host.sessions (with_seat seats n h (seat_of (with_reply handle line call reply answer.response)))
   pub count : length answer.host.sessions + session_count (seat_of handle) ≡ length host.sessions + session_count (seat_of (with_reply handle line call reply answer.response))
+  pub alone : answer.back ≡ []
   pub opens : answer.host.opens ≡ host.opens
   pub model : answer.host.model ≡ host.model
 
@@ -108,7 +110,7 @@ some_command c d same = sym (ap (command_or c) same)
 
 -- a refusal leaves the handle and the sessions
 done_refused : (host : HostState) (seats : List (List Seat)) (n h : ℕ) (handle : HandleState) (line : ℕ) (call : Call) (c : Command) (e : Errno) → IsHere host seats n h handle
-    → IsCall (local_of handle) line call (Refused e) (local_of handle) → IsDone host seats n h handle line call c (record { response = Denied (errno_number e); host = host })
+    → IsCall (local_of handle) line call (Refused e) (local_of handle) → IsDone host seats n h handle line call c (record { response = Denied (errno_number e); back = []; host = host })
 done_refused host seats n h handle line call c e here is =
     let seat : seat_of (with_reply handle line call (Refused e) (Denied (errno_number e))) ≡ seat_of handle =
     seat_replied handle line call (Refused e) (Denied (errno_number e)) (local_of handle) here.legal is ∙ ap (λ x. record { session = x; local = local_of handle }) (session_stays call handle.session e) in
@@ -118,6 +120,7 @@ done_refused host seats n h handle line call c e here is =
       fits = errno_fits e;
       agrees = agrees_same host.sessions seats n h _ here.place (seat ∙ sym here.is) here.agrees;
       count = ap (λ s. length host.sessions + session_count s) (sym seat);
+      alone = refl;
       opens = refl;
       model = refl;
     }
@@ -139,8 +142,14 @@ fresh_stands m s nonblock n same = record {
   model = same;
   input = refl;
   queues = ap (λ k. (opening k).queues) same ∙ opened_queues m n;
+  fresh = opened_fresh m n;
+  made = refl;
 }
   where
+    opened_fresh : (m : Model) (n : ℕ) → (S.opening_session m n).queues ≡ map fresh_with (S.opening_session m n).queues
+    opened_fresh Capture n = refl
+    opened_fresh Convert n = refl
+
     opened_queues : (m : Model) (n : ℕ) → (opening m).queues ≡ map opened_with (S.opening_session m n).queues
     opened_queues Capture n = refl
     opened_queues Convert n = refl
@@ -167,6 +176,7 @@ done_open host seats n h handle line nonblock true here vacant =
       fits = here.small;
       agrees = subst P (sym seat) more;
       count = (let before : session_count (seat_of handle) ≡ 0 = ap (λ o. if is_some o then 1 else 0) vacant in omega (arith, length-append host.sessions (Some session ∷ []), before));
+      alone = refl;
       opens = refl;
       model = refl;
     }
@@ -228,16 +238,18 @@ done_close host seats n h handle line memory own here is_open =
     let t : LocalState = closed (local_of handle) in
     let is : IsCall (local_of handle) line CloseHandle Done t = closes (local_of handle) line is_open in
     let both = changed host seats n h own.id handle line CloseHandle Done Closed None t here own.has is refl refl in
-    let there : IsDone host seats n h handle line CloseHandle (CloseSession own.id) (record { response = Closed; host = without_session host own.id }) = record {
+    let there : IsDone host seats n h handle line CloseHandle (CloseSession own.id) (record { response = Closed; back = []; host = without_session host own.id }) = record {
       reply = Done;
       legal = (t, 0, (is, refl));
       fits = tt;
       agrees = both.0;
       count = omega (arith, length-set host.sessions own.id None, both.1);
+      alone = refl;
       opens = refl;
       model = refl;
     } in
-    let live : performed memory host (CloseSession own.id) ≡ record { response = Closed; host = without_session host own.id } = rw own.live refl in
+    let live : performed memory host (CloseSession own.id) ≡ record { response = Closed; back = []; host = without_session host own.id } =
+    rw own.live (ap (λ ms. record { response = Closed; back = ms; host = without_session host own.id }) (none_held own.session own.stands.fresh)) in
     subst (IsDone host seats n h handle line CloseHandle (CloseSession own.id)) (sym live) there
 
 -- a call that stays in its session
@@ -250,40 +262,41 @@ still_stands id t session stands is_open =
 
 done_in : (host : HostState) (seats : List (List Seat)) (n h : ℕ) (handle : HandleState) (line : ℕ) (call : Call) (code : IoctlCode) (payload : List ℕ) (own : HasSession host handle) (outcome : Result S.IoctlAnswer Errno)
     → IsHere host seats n h handle → StaysInSession call → HasItsLength code payload
-    → S.ioctl_outcome own.session code payload ≡ outcome → AnswersAs own.id line (local_of handle) call outcome
+    → (memory : Bool) → S.ioctl_outcome memory own.session code payload ≡ outcome → AnswersAs own.id line (local_of handle) call outcome
     → IsDone host seats n h handle line call (Ioctl own.id code payload) (served host own.id outcome)
-done_in host seats n h handle line call code payload own (Ok a) here stays sized comes answers =
+done_in host seats n h handle line call code payload own (Ok a) here stays sized memory comes answers =
     let both = changed host seats n h own.id handle line call answers.0 (Answered a.payload) (Some a.next) answers.1 here own.has answers.2 (stays handle.session answers.0 a.payload)
     (still_stands own.id answers.1 a.next answers.4 answers.5) in
     record {
       reply = answers.0;
       legal = (answers.1, own.id, (answers.2, sym answers.3));
-      fits = answer_length own.session code payload a sized comes;
+      fits = answer_length memory own.session code payload a sized comes;
       agrees = both.0;
       count = omega (arith, length-set host.sessions own.id (Some a.next), both.1);
+      alone = answers.6;
       opens = refl;
       model = refl;
     }
-done_in host seats n h handle line call code payload own (Err e) here stays sized comes answers =
+done_in host seats n h handle line call code payload own (Err e) here stays sized memory comes answers =
     done_refused host seats n h handle line call (Ioctl own.id code payload) e here answers
 
 -- a call is done in the session of its handle
 done_ioctl : (host : HostState) (seats : List (List Seat)) (n h : ℕ) (handle : HandleState) (line : ℕ) (call : Call) (code : IoctlCode) (payload : List ℕ) (memory : Bool) (own : HasSession host handle)
     → IsHere host seats n h handle → StaysInSession call → HasItsLength code payload
-    → AnswersAs own.id line (local_of handle) call (S.ioctl_outcome own.session code payload)
+    → AnswersAs own.id line (local_of handle) call (S.ioctl_outcome memory own.session code payload)
     → IsDone host seats n h handle line call (Ioctl own.id code payload) (performed memory host (Ioctl own.id code payload))
 done_ioctl host seats n h handle line call code payload memory own here stays sized answers =
-    let there = done_in host seats n h handle line call code payload own (S.ioctl_outcome own.session code payload) here stays sized refl answers in
-    let live : performed memory host (Ioctl own.id code payload) ≡ served host own.id (S.ioctl_outcome own.session code payload) = rw own.live refl in
+    let there = done_in host seats n h handle line call code payload own (S.ioctl_outcome memory own.session code payload) here stays sized memory refl answers in
+    let live : performed memory host (Ioctl own.id code payload) ≡ served host own.id (S.ioctl_outcome memory own.session code payload) = rw own.live refl in
     subst (IsDone host seats n h handle line call (Ioctl own.id code payload)) (sym live) there
 
 -- ---- each call that crosses
 
 -- an outcome by the row of the words that the request carries
-as_asked : (id line : ℕ) (s : LocalState) (call : Call) (session : Session) (code : IoctlCode) (payload : List ℕ) (row : S.IoctlRow)
-    → S.ioctl_row session code payload ≡ row → AnswersAs id line s call (S.outcome_of row) → AnswersAs id line s call (S.ioctl_outcome session code payload)
-as_asked id line s call session code payload row is answers =
-    let P : S.IoctlRow → Type 0 = λ r. AnswersAs id line s call (S.outcome_of r) in subst P (sym is) answers
+as_asked : (id line : ℕ) (s : LocalState) (call : Call) (session : Session) (memory : Bool) (code : IoctlCode) (payload : List ℕ) (row : S.IoctlRow)
+    → S.ioctl_row session code payload ≡ row → AnswersAs id line s call (S.outcome_of memory row) → AnswersAs id line s call (S.ioctl_outcome memory session code payload)
+as_asked id line s call session memory code payload row is answers =
+    let P : S.IoctlRow → Type 0 = λ r. AnswersAs id line s call (S.outcome_of memory r) in subst P (sym is) answers
 
 -- What is done for the handle by the command by which its call crosses, and that the command fits its fields.
 abbrev pub IsServed : HostState → List (List Seat) → ℕ → ℕ → HandleState → ℕ → Call → Bool → Command → Type 0
@@ -298,7 +311,7 @@ open_where false x c is = cc
 in_own : (host : HostState) (seats : List (List Seat)) (n h : ℕ) (handle : HandleState) (line : ℕ) (call : Call) (code : IoctlCode) (payload : List ℕ) (memory : Bool) (c : Command)
     → IsHere host seats n h handle → StaysInSession call → HasItsLength code payload
     → ((id : ℕ) (session : Session) → Stands id (local_of handle) session → (local_of handle).opened ≡ true
-    → AnswersAs id line (local_of handle) call (S.ioctl_outcome session code payload))
+    → AnswersAs id line (local_of handle) call (S.ioctl_outcome memory session code payload))
     → crossing (if (local_of handle).opened then Crosses (Ioctl (unwrap_or handle.session 0) code payload) else AnsweredHere) ≡ Some c
     → IsServed host seats n h handle line call memory c
 in_own host seats n h handle line call code payload memory c here stays sized answers crosses =
@@ -324,25 +337,25 @@ done host seats n h handle line CloseHandle c memory built here crosses vacant =
     subst (IsServed host seats n h handle line CloseHandle memory) (sym is)
     (omega (arith, own.below, here.small), done_close host seats n h handle line memory own here opened.0)
 done host seats n h handle line QueryCap c memory built here crosses vacant =
-    in_own host seats n h handle line QueryCap _ _ memory c here (λ session reply payload. refl) refl (λ id session stands is_open. querycap_answers id line (local_of handle) session stands is_open) crosses
+    in_own host seats n h handle line QueryCap _ _ memory c here (λ session reply payload. refl) refl (λ id session stands is_open. querycap_answers id line (local_of handle) session memory stands is_open) crosses
 done host seats n h handle line (EnumFmt t i) c memory built here crosses vacant =
     in_own host seats n h handle line (EnumFmt t i) Code.EnumFmt (fmtdesc_bytes (fmt_desc_request t i)) memory c here (λ session reply payload. refl) (fmt_desc_request_length t i)
-    (λ id session stands is_open. as_asked id line (local_of handle) (EnumFmt t i) session Code.EnumFmt (fmtdesc_bytes (fmt_desc_request t i)) _ (enumfmt_reads session t i built.0 built.1) (enumfmt_answers id line (local_of handle) session t i stands is_open)) crosses
+    (λ id session stands is_open. as_asked id line (local_of handle) (EnumFmt t i) session memory Code.EnumFmt (fmtdesc_bytes (fmt_desc_request t i)) _ (enumfmt_reads session t i built.0 built.1) (enumfmt_answers id line (local_of handle) session memory t i stands is_open)) crosses
 done host seats n h handle line (GFmt t) c memory built here crosses vacant =
     in_own host seats n h handle line (GFmt t) Code.GFmt (format_bytes (format_type_request t)) memory c here (λ session reply payload. refl) (format_type_request_length t)
-    (λ id session stands is_open. as_asked id line (local_of handle) (GFmt t) session Code.GFmt (format_bytes (format_type_request t)) _ (gfmt_reads session t built) (gfmt_answers id line (local_of handle) session t stands is_open)) crosses
+    (λ id session stands is_open. as_asked id line (local_of handle) (GFmt t) session memory Code.GFmt (format_bytes (format_type_request t)) _ (gfmt_reads session t built) (gfmt_answers id line (local_of handle) session memory t stands is_open)) crosses
 done host seats n h handle line (TryFmt t f w x) c memory built here crosses vacant =
     in_own host seats n h handle line (TryFmt t f w x) Code.TryFmt (format_bytes (format_request t f w x)) memory c here (λ session reply payload. refl) (format_request_length t f w x)
-    (λ id session stands is_open. as_asked id line (local_of handle) (TryFmt t f w x) session Code.TryFmt (format_bytes (format_request t f w x)) _ (tryfmt_reads session t f w x built.0 built.1 built.2 built.3) (tryfmt_answers id line (local_of handle) session t f w x stands is_open)) crosses
+    (λ id session stands is_open. as_asked id line (local_of handle) (TryFmt t f w x) session memory Code.TryFmt (format_bytes (format_request t f w x)) _ (tryfmt_reads session t f w x built.0 built.1 built.2 built.3) (tryfmt_answers id line (local_of handle) session memory t f w x stands is_open)) crosses
 done host seats n h handle line (SFmt t f w x) c memory built here crosses vacant =
     in_own host seats n h handle line (SFmt t f w x) Code.SFmt (format_bytes (format_request t f w x)) memory c here (λ session reply payload. refl) (format_request_length t f w x)
-    (λ id session stands is_open. as_asked id line (local_of handle) (SFmt t f w x) session Code.SFmt (format_bytes (format_request t f w x)) _ (sfmt_reads session t f w x built.0 built.1 built.2 built.3) (sfmt_answers id line (local_of handle) session t f w x stands is_open)) crosses
+    (λ id session stands is_open. as_asked id line (local_of handle) (SFmt t f w x) session memory Code.SFmt (format_bytes (format_request t f w x)) _ (sfmt_reads session t f w x built.0 built.1 built.2 built.3) (sfmt_answers id line (local_of handle) session memory t f w x stands is_open)) crosses
 done host seats n h handle line (EnumInput i) c memory built here crosses vacant =
     in_own host seats n h handle line (EnumInput i) Code.EnumInput (input_bytes (input_request i)) memory c here (λ session reply payload. refl) (input_request_length i)
-    (λ id session stands is_open. as_asked id line (local_of handle) (EnumInput i) session Code.EnumInput (input_bytes (input_request i)) _ (enuminput_reads session i built) (enuminput_answers id line (local_of handle) session i stands is_open)) crosses
+    (λ id session stands is_open. as_asked id line (local_of handle) (EnumInput i) session memory Code.EnumInput (input_bytes (input_request i)) _ (enuminput_reads session i built) (enuminput_answers id line (local_of handle) session memory i stands is_open)) crosses
 done host seats n h handle line GInput c memory built here crosses vacant =
-    in_own host seats n h handle line GInput _ _ memory c here (λ session reply payload. refl) refl (λ id session stands is_open. ginput_answers id line (local_of handle) session stands is_open) crosses
+    in_own host seats n h handle line GInput _ _ memory c here (λ session reply payload. refl) refl (λ id session stands is_open. ginput_answers id line (local_of handle) session memory stands is_open) crosses
 done host seats n h handle line (SInput i) c memory built here crosses vacant =
     in_own host seats n h handle line (SInput i) Code.SInput (le i) memory c here (λ session reply payload. refl) refl
-    (λ id session stands is_open. as_asked id line (local_of handle) (SInput i) session Code.SInput (le i) _ (sinput_reads session i built) (sinput_answers id line (local_of handle) session i stands is_open)) crosses
+    (λ id session stands is_open. as_asked id line (local_of handle) (SInput i) session memory Code.SInput (le i) _ (sinput_reads session i built) (sinput_answers id line (local_of handle) session memory i stands is_open)) crosses
 done host seats n h handle line call c memory built here crosses vacant = absurd built

@@ -1,5 +1,5 @@
 -- Lemmas on the world's steps over the link: what its parcels say, and that each step is the world's.
-use Rattle.std.proofs.Common.{◌≡◌, ◌≢◌, ℕ, zero, suc, ◌+◌, ◌-◌, ◌*◌, ◌<◌, ◌≤◌, Bool, true, false, List, [], ◌∷◌, ◌++◌, Option, Some, None, Result, Ok, Err, All, length, map, get_or, set, refl, sym, ap, ◌∙◌, subst, arith, nat_lt, if◌then◌else◌}
+use Rattle.std.proofs.Common.{◌≡◌, ◌≢◌, ℕ, zero, suc, ◌+◌, ◌-◌, ◌*◌, ◌<◌, ◌≤◌, Bool, true, false, List, [], ◌∷◌, ◌++◌, Option, Some, None, Result, Ok, Err, All, length, map, get_or, set, refl, sym, ap, ◌∙◌, subst, arith, nat_lt, if◌then◌else◌, ◌⊎◌, inl, inr}
 use Rattle.std.specs.Prelude.{sum_by}
 use Rattle.std.proofs.lemmas.List.{append-nil, map_push, length-map}
 use Rattle.std.proofs.lemmas.List.Elements.{All-push, All-tail}
@@ -22,7 +22,7 @@ use Rattle.vm_wire.specs.declared.command.Command.{Command}
 use Rattle.vm_wire.specs.declared.command.Command.TheVariants.{OpenSession}
 use Rattle.vm_wire.specs.declared.command.CmdFault.{CmdFault}
 use Rattle.vm_host.specs.Sessions.{HostState}
-use Rattle.vm_host.specs.Host.{Executes as HostExecutes, AsksToOpen, chain_in, asked_by, performed, Sent, done_as, moved_on}
+use Rattle.vm_host.specs.Host.{Executes as HostExecutes, AsksToOpen, HasRoom, MadeFew, EachMadeFew, sent_with, chain_in, asked_by, performed, Sent, done_as, moved_on}
 use Rattle.vm_host.specs.Part.{ask_by, request_of, executed, executed_ask, finishing}
 use Rattle.vm_script.specs.Script.{ScriptLines}
 use Rattle.vm_guest.specs.declared.asked.Asked.{Asked}
@@ -38,7 +38,9 @@ use Rattle.vm_world.specs.World.{WorldState, Turns, Executes, Collects, after_po
 use Rattle.vm_world.specs.World.{is_enabled, turn_of}
 use Rattle.vm_world.specs.declared.step.Step.{Step}
 use Rattle.vm_world.specs.declared.step.Step.TheVariants.{Issue, Execute, Collect}
-use Rattle.vm_world.specs.Sound.{IsSoundOf, requests_of, replies_of}
+use Rattle.vm_local.specs.State.{LocalState}
+use Rattle.vm_session.specs.declared.session.Session.{Session}
+use Rattle.vm_world.specs.Sound.{IsSoundOf, requests_of, replies_of, Seat, seat_at, session_in, StandsIf, SeatedBy}
 use Rattle.vm_world.specs.Carried.{IsEmpty, world_of, CarriesCommand, IsBack, IsCarried}
 use Rattle.vm_world.proofs.ChainLemmas.{request_posted, served_posted, brought}
 use Rattle.vm_world.proofs.WorldLemmas.{begun_is, command_fits, reply_fits, room_to_open, sound_posting, sound_finishing, sound_collected, brought_to, IsBroughtTo, crossing_most, judged_same}
@@ -168,9 +170,12 @@ execute_step script g host q q' turn host' sound carried does = by_waiting q.wai
         let says = request_posted parcel.who c parcel fits carries in
         let r : Request = request_of parcel in
         let first : w.requests ≡ r ∷ map request_of ps = ap (map request_of) is in
-        let gives : performed served.memory host c ≡ record { response = served.response; host = host' } = served.does in
-        let may : MayReply c served.response = subst (λ a. MayReply c a.response) gives (reply_fits script w r (map request_of ps) served.memory c sound first (ap (λ (x : Request). x.asks) says)) in
-        let back = brought parcel.who c parcel sent_back served.response head fits may carries served.sent_is in
+        let gives : performed served.memory host c ≡ record { response = served.response; back = served.back; host = host' } = served.does in
+        let fitting = reply_fits script w r (map request_of ps) served.memory c sound first (ap (λ (x : Request). x.asks) says) in
+        let may : MayReply c served.response = subst (λ a. MayReply c a.response) gives fitting.0 in
+        let none : served.back ≡ [] = ap (λ a. a.back) (sym gives) ∙ fitting.1 in
+        let sent_alone = served.sent_is ∙ ap (sent_with parcel (chain_table parcel.who (length (command_bytes c))) served.response) none in
+        let back = brought parcel.who c parcel sent_back served.response head fits may carries sent_alone in
         let d : DoneChain = done_as head (length parcel.table) sent_back in
         let q1 : Queue = moved_on q ps d in
         let done_reply : executed served.memory host r ≡ record { reply = record { who = parcel.who; bytes = response_bytes served.response }; host = host' } =
@@ -297,6 +302,42 @@ may_execute script g host q sound carried asks = by_waiting q.waiting refl asks
         let says = ap (λ (x : Request). x.asks) (request_posted parcel.who own.0 parcel own.1 own.2) in
         let c : own.0 ≡ OpenSession = ok_descs (chain_in parcel) asks.0 parcel own.0 asks.1 says asks.2 in
         room_to_open script (world_of script g host q) (request_of parcel) (map request_of ps) sound (ap (map request_of) is) (says ∙ ap (λ x. Judged (Ok x)) c)
+
+-- the chain that waits first has room for the memories that go along
+pub has_room : (q : Queue) → IsCarried q → HasRoom q.waiting
+has_room q carried = by_waiting q.waiting refl
+  where
+    by_waiting : (ps : List Parcel) → q.waiting ≡ ps → HasRoom ps
+    by_waiting [] is = tt
+    by_waiting (p ∷ ps) is =
+        let own : CarriesCommand p = subst (λ xs. All CarriesCommand xs) is carried.waiting 0 p (omega arith) in
+        let P : Parcel → Type 0 = λ x. length x.held + 64 ≤ x.room in
+        let roomy = own.2.roomy in
+        subst P (sym own.2.is) (omega (arith, roomy))
+
+within_or_none : (xs : List (Option Session)) (id : ℕ) → (id < length xs) ⊎ (get_or xs id None ≡ None)
+within_or_none [] id = inr refl
+within_or_none (x ∷ xs) zero = inl (omega arith)
+within_or_none (x ∷ xs) (suc id) = elim (within_or_none xs id) [
+  | inl within ↦ inl (omega (arith, within))
+  | inr none ↦ inr none
+]
+
+made_few : (b : Bool) (id : ℕ) (s : LocalState) (o : Option Session) → StandsIf b id s o → MadeFew o
+made_few true id s None stands = tt
+made_few true id s (Some session) stands = let none = stands.made in omega (arith, none)
+made_few false id s o none = subst MadeFew (sym none) tt
+
+-- no session made a frame
+pub few_frames : (script : ScriptLines) (w : WorldState) → IsSoundOf script w → EachMadeFew w.host
+few_frames script w sound id = elim (within_or_none w.host.sessions id) [
+  | inl within ↦
+      let seat = sound.agrees.there id within in
+      let own : Seat = seat_at sound.seats seat.0 seat.1.0 in
+      let P : Option ℕ → Type 0 = λ o. SeatedBy o own.local w.host.sessions in
+      made_few own.local.opened id own.local (session_in w.host.sessions id) (subst P seat.1.1 (sound.agrees.seated seat.0 seat.1.0))
+  | inr none ↦ subst MadeFew (sym none) tt
+]
 
 pub may_collect : (script : ScriptLines) (g : GuestState) (host : HostState) (q : Queue) → IsSoundOf script (world_of script g host q) → IsCarried q → IsReply q.done g
 may_collect script g host q sound carried = by_done q.done refl

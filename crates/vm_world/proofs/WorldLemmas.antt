@@ -562,9 +562,9 @@ command_fits script w n a c sound is crosses =
           (λ nonblock opens. vacant_before script w.guest n a nonblock sound.driver within at.1 opens)).0,
     )
 
--- the response to the first request is one that its command may have
+-- the response to the first request is one that its command may have, and no memory goes along
 pub reply_fits : (script : ScriptLines) (w : WorldState) (r : Request) (rs : List Request) (memory : Bool) (c : Command) → IsSoundOf script w → w.requests ≡ r ∷ rs → r.asks ≡ Judged (Ok c)
-    → MayReply c (performed memory w.host c).response
+    → MayReply c (performed memory w.host c).response × ((performed memory w.host c).back ≡ [])
 reply_fits script w r rs memory c sound first says =
     let served = served_first script w r rs sound first in
     let p : ProcessState = process_at w.guest r.who in
@@ -572,7 +572,7 @@ reply_fits script w r rs memory c sound first says =
     let asking = served.waiting.asking in
     let same : asking.command ≡ c = command_alike asking.command c (sym asking.asked ∙ says) in
     let does = done w.host sound.seats r.who a.handle (handle_at p a.handle) asking.sent.line asking.sent.call asking.command memory served.built served.here asking.out.crosses served.vacant in
-    subst (λ x. MayReply x (performed memory w.host x).response) same does.1.fits
+    subst (λ x. MayReply x (performed memory w.host x).response × ((performed memory w.host x).back ≡ [])) same (does.1.fits, does.1.alone)
 
 -- What came back first is a response to the line of a process that is on its way.
 pub record IsBroughtTo (g : GuestState) (n : ℕ) (bytes : List ℕ) : Type 0 where

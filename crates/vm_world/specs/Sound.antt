@@ -10,7 +10,7 @@ use Rattle.vm_wire.specs.Message.Ask.{Judged}
 use Rattle.vm_wire.specs.Wire.{response_bytes, Answers as MayReply}
 use Rattle.vm_wire.specs.declared.command.Command.{Command}
 use Rattle.vm_wire.specs.declared.response.Response.{Response}
-use Rattle.vm_session.specs.Session.{SessionQueue}
+use Rattle.vm_session.specs.Session.{SessionQueue, opening_queue as opening_session_queue}
 use Rattle.vm_session.specs.declared.session.Session.{Session}
 use Rattle.vm_handle.specs.Handle.{HandleState, local_of, asks, IsAnswer, with_reply}
 use Rattle.vm_handle.specs.declared.sent.Sent.{Sent}
@@ -82,13 +82,19 @@ Ahead h Lost seat = ⊥
 abbrev pub opened_with : SessionQueue → QueueState
 opened_with q = record opening_queue { format = q.format }
 
--- The session of this id stands for a handle in this state: it has its model, its input and its formats, and the
--- handle has no buffers.
+-- the same of a queue of a session
+abbrev pub fresh_with : SessionQueue → SessionQueue
+fresh_with q = record opening_session_queue { format = q.format }
+
+-- The session of this id stands for a handle in this state: it has its model, its input and its formats, neither
+-- has buffers, and the session made no frame.
 pub record Stands (id : ℕ) (s : LocalState) (session : Session) : Type 0 where
   pub numbered : session.id ≡ id
   pub model : s.model ≡ session.model
   pub input : s.input ≡ session.input
   pub queues : s.queues ≡ map opened_with session.queues
+  pub fresh : session.queues ≡ map fresh_with session.queues
+  pub made : session.made ≡ 0
 
 abbrev pub IsLive : ℕ → LocalState → Option Session → Type 0
 IsLive id s None = ⊥

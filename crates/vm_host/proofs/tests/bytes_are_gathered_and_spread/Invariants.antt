@@ -1,6 +1,7 @@
-use Rattle.std.proofs.Common.{◌≡◌, ◌≤◌, length}
+use Rattle.std.proofs.Common.{◌≡◌, ◌≤◌, ◌*◌, length}
+use Rattle.vm_host.specs.Host.{EachMadeMost}
 use Rattle.vm_host.proofs.tests.bytes_are_gathered_and_spread.Given as goal
 
--- at most one session was opened in each row
+-- at most one session was opened in each row, and 32 frames were made
 abbrev pub invariant-loop-numbers : goal.invariant-loop-numbers
-invariant-loop-numbers g l = (l.host.opens ≡ 64) × (length l.host.sessions ≤ l.numbers-index)
+invariant-loop-numbers g l = (l.host.opens ≡ 64) × (length l.host.sessions ≤ l.numbers-index) × EachMadeMost (32 * l.numbers-index) l.host

@@ -1,4 +1,4 @@
-use Rattle.vm_session.proofs.ReadBackLemmas.{enumfmt_reads, gfmt_reads, tryfmt_reads, sfmt_reads, enuminput_reads, sinput_reads}
+use Rattle.vm_session.proofs.ReadBackLemmas.{enumfmt_reads, gfmt_reads, tryfmt_reads, sfmt_reads, enuminput_reads, sinput_reads, reqbufs_call_reads, querybuf_call_reads}
 use Rattle.vm_session.proofs.laws.requests_are_read.Goals as goal
 
 pub returns-clause-enumfmt : goal.returns-clause-enumfmt
@@ -18,3 +18,9 @@ returns-clause-enuminput c = enuminput_reads
 
 pub returns-clause-sinput : goal.returns-clause-sinput
 returns-clause-sinput c = sinput_reads
+
+pub returns-clause-reqbufs : goal.returns-clause-reqbufs
+returns-clause-reqbufs c = reqbufs_call_reads
+
+pub returns-clause-querybuf : goal.returns-clause-querybuf
+returns-clause-querybuf c = querybuf_call_reads

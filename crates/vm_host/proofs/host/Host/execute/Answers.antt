@@ -1,11 +1,11 @@
 use Rattle.std.proofs.Common.{◌<◌, length, sym, ap, subst, refl, ◌∙◌}
 use Rattle.vm_host.specs.Sessions.{HostState}
-use Rattle.vm_host.specs.Host.{Executes}
+use Rattle.vm_host.specs.Host.{Executes, EachMadeFew}
 use Rattle.vm_link.specs.Queue.{Queue, queue_at}
 use Rattle.vm_link.specs.declared.link.Turn.TheVariants.{Did}
 use Rattle.vm_link.specs.declared.link.QueueId.TheVariants.{Command, Event}
 use Rattle.vm_link.proofs.QueueLemmas.{taken_is_out}
-use Rattle.vm_host.proofs.ServeLemmas.{walked_fits, taken_opens, executed}
+use Rattle.vm_host.proofs.ServeLemmas.{walked_fits, taken_opens, taken_room, executed}
 use Rattle.vm_host.proofs.host.Host.execute.Goals as goal
 
 pub serve-used-requires-clause-fits : goal.serve-used-requires-clause-fits
@@ -16,7 +16,14 @@ pub serve-used-requires-clause-opens : goal.serve-used-requires-clause-opens
 serve-used-requires-clause-opens g c =
     let P : HostState → Type 0 = λ h. length h.sessions < h.opens in
     λ none opens. subst P (sym c.self.view_is)
-    (c.requires (taken_opens (queue_at Command (g.L.Link.queues c.args.link.now)) (queue_at Command (g.L.Link.queues c.take.new.self)) c.self.inside.chain c.take.new.chain c.in-Some.taken c.self.invariant.0 c.in-Some.ensures.taken none opens))
+    (c.requires.opens (taken_opens (queue_at Command (g.L.Link.queues c.args.link.now)) (queue_at Command (g.L.Link.queues c.take.new.self)) c.self.inside.chain c.take.new.chain c.in-Some.taken c.self.invariant.0 c.in-Some.ensures.taken none opens))
+
+pub serve-used-requires-clause-frames : goal.serve-used-requires-clause-frames
+serve-used-requires-clause-frames g c = subst EachMadeFew (sym c.self.view_is) c.requires.frames
+
+pub serve-used-requires-clause-held : goal.serve-used-requires-clause-held
+serve-used-requires-clause-held g c =
+    taken_room (queue_at Command (g.L.Link.queues c.args.link.now)) (queue_at Command (g.L.Link.queues c.take.new.self)) c.self.inside.chain c.take.new.chain c.in-Some.taken c.in-Some.ensures.taken c.requires.room
 
 pub finish-requires : goal.finish-requires
 finish-requires g c =

@@ -1,15 +1,22 @@
-use Rattle.std.proofs.Common.{true, rules, arith}
+use Rattle.std.proofs.Common.{◌++◌, true, rules, arith, ap, ◌∙◌}
 use Rattle.std.proofs.lemmas.Grind.{common_steps}
+use Rattle.slab.specs.Slab.{get}
+use Rattle.vm_session.specs.declared.session.Session.{Session}
+use Rattle.vm_host.specs.Host.{memories_of}
 use Rattle.vm_host.proofs.AnswerLemmas.{closed_answer}
 use Rattle.vm_host.proofs.CountLemmas.{closed_count}
 use Rattle.vm_host.proofs.SessionLemmas.{closed_each}
 use Rattle.vm_host.proofs.sessions.Sessions.close.Goals as goal
 
-pub returns-in-Some : goal.returns-in-Some
-returns-in-Some c = (
-  true,
-  rw (← c.self.view_is)
-      (closed_answer c.self.inside.model c.self.inside.opens c.self.inside.slab c.try_remove.new.self c.self.inside.keys.items c.in-Some.key c.args.session c.self.invariant.3 (cc) c.try_remove.ensures.updates),
+pub returns-in-Some-clause-given : goal.returns-in-Some-clause-given
+returns-in-Some-clause-given c = (
+  memories_of (get c.self.inside.slab c.in-Some.key),
+  (
+    true,
+    rw (← c.self.view_is)
+        (closed_answer c.self.inside.model c.self.inside.opens c.self.inside.slab c.try_remove.new.self c.self.inside.keys.items c.in-Some.key c.args.session c.self.invariant.3 (cc) c.try_remove.ensures.updates),
+  ),
+  c.stop.ensures.memories ∙ ap (λ o. c.args.held.now.items ++ memories_of o) c.try_remove.ensures.value,
 )
 
 pub invariant_of-self : goal.invariant_of-self

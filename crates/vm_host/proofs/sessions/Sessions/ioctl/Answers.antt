@@ -1,23 +1,38 @@
-use Rattle.std.proofs.Common.{true, rules, ◌∙◌}
-use Rattle.vm_host.proofs.AnswerLemmas.{session_there, called_answer, called_each}
+use Rattle.std.proofs.Common.{true, Option, rules, subst, sym, ◌∙◌}
+use Rattle.vm_session.specs.declared.session.Session.{Session}
+use Rattle.vm_session.specs.Session.{ioctl_outcome}
+use Rattle.vm_host.specs.Host.{MadeFew, EachMadeFew}
+use Rattle.vm_host.proofs.AnswerLemmas.{session_there, called_answer, called_each, back_of, held_by}
+use Rattle.vm_host.proofs.SessionLemmas.{found_at}
 use Rattle.vm_host.proofs.sessions.Sessions.ioctl.Goals as goal
 
-pub returns : goal.returns
-returns c =
-    let found = session_there c.self.inside.slab c.self.inside.keys.items c.in-Some.key c.args.session c.self.invariant.3 (cc) in (
-      true,
-      rw (← c.self.view_is, c.reply_to.ensures)
-          (called_answer c.self.inside.model c.self.inside.opens c.self.inside.slab c.call_at-outcome.new.slab c.self.inside.keys.items c.in-Some.key c.args.session found.0 c.args.code
-          c.args.payload c.call_at-outcome.new.payload c.call_at-outcome.result c.self.invariant.3 (cc) found.1 (c.call_at-outcome.ensures.calls found.0 found.1)),
+pub call_at-outcome-requires-clause-frames : goal.call_at-outcome-requires-clause-frames
+call_at-outcome-requires-clause-frames c = λ s there.
+    subst MadeFew (found_at c.self.inside.slab c.self.inside.keys.items c.in-Some.key c.args.session (cc) ∙ there) (subst EachMadeFew (sym c.self.view_is) c.requires.frames c.args.session)
+
+pub returns-clause-given : goal.returns-clause-given
+returns-clause-given c =
+    let found = session_there c.self.inside.slab c.self.inside.keys.items c.in-Some.key c.args.session c.self.invariant.3 (cc) in
+    let calls = c.call_at-outcome.ensures.calls found.0 found.1 in (
+      back_of (ioctl_outcome calls.0 found.0 c.args.code c.args.payload),
+      (
+        calls.0,
+        rw (← c.self.view_is, c.reply_to.ensures)
+            (called_answer c.self.inside.model c.self.inside.opens c.self.inside.slab c.call_at-outcome.new.slab c.self.inside.keys.items c.in-Some.key c.args.session found.0 c.args.code calls.0
+            c.args.payload c.call_at-outcome.new.payload c.args.held.now.items c.call_at-outcome.new.held.items c.call_at-outcome.result c.self.invariant.3 (cc) found.1 calls.1),
+      ),
+      held_by c.self.inside.slab c.call_at-outcome.new.slab c.in-Some.key (ioctl_outcome calls.0 found.0 c.args.code c.args.payload) c.args.payload c.call_at-outcome.new.payload
+          c.args.held.now.items c.call_at-outcome.new.held.items c.call_at-outcome.result calls.1,
     )
 
 pub invariant_of-self : goal.invariant_of-self
 invariant_of-self c =
-    let found = session_there c.self.inside.slab c.self.inside.keys.items c.in-Some.key c.args.session c.self.invariant.3 (cc) in (
+    let found = session_there c.self.inside.slab c.self.inside.keys.items c.in-Some.key c.args.session c.self.invariant.3 (cc) in
+    let calls = c.call_at-outcome.ensures.calls found.0 found.1 in (
       search rules,
       search rules,
       search rules,
-      called_each c.self.inside.slab c.call_at-outcome.new.slab c.self.inside.keys.items c.in-Some.key c.args.session found.0 c.args.code c.args.payload c.call_at-outcome.new.payload c.call_at-outcome.result
-          c.self.invariant.3 (cc) found.1 (c.call_at-outcome.ensures.calls found.0 found.1),
+      called_each c.self.inside.slab c.call_at-outcome.new.slab c.self.inside.keys.items c.in-Some.key c.args.session found.0 c.args.code calls.0 c.args.payload c.call_at-outcome.new.payload
+          c.args.held.now.items c.call_at-outcome.new.held.items c.call_at-outcome.result c.self.invariant.3 (cc) found.1 calls.1,
       c.call_at-outcome.ensures.len ∙ c.self.invariant.4,
     )

@@ -7,7 +7,7 @@ use Rattle.vm_world.specs.World.{WorldState, Turns, left_of, turn_of}
 use Rattle.vm_world.specs.declared.step.Step.{Step}
 use Rattle.vm_world.specs.declared.step.Step.TheVariants.{Issue, Execute, Collect}
 use Rattle.vm_world.specs.Carried.{world_of}
-use Rattle.vm_world.proofs.StepLemmas.{may_post, may_execute, may_collect, issue_step, events_issued, execute_step, collected_over, still_empty}
+use Rattle.vm_world.proofs.StepLemmas.{may_post, may_execute, has_room, few_frames, may_collect, issue_step, events_issued, execute_step, collected_over, still_empty}
 use Rattle.vm_world.proofs.TurnLemmas.{sound_issue, sound_execute, sound_collect, issue_turn, falls_issue, falls_collect}
 use Rattle.vm_world.proofs.world.World.step.Goals as goal
 
@@ -23,8 +23,15 @@ invariant_of-self g c =
       still_empty (queue_at Event (g.L.Link.queues c.self.inside.link)) _ (events_issued c.in-Issue.p c.self.inside.guest c.issue.new.self (g.L.Link.queues c.self.inside.link) (g.L.Link.queues c.issue.new.link) c.issue.result c.issue.ensures.issues) c.self.invariant.2,
     )
 
-pub execute-requires : goal.execute-requires
-execute-requires g c = may_execute c.self.inside.script c.self.inside.guest c.self.inside.host (queue_at Command (g.L.Link.queues c.self.inside.link)) c.self.invariant.0 c.self.invariant.1
+pub execute-requires-clause-opens : goal.execute-requires-clause-opens
+execute-requires-clause-opens g c = may_execute c.self.inside.script c.self.inside.guest c.self.inside.host (queue_at Command (g.L.Link.queues c.self.inside.link)) c.self.invariant.0 c.self.invariant.1
+
+pub execute-requires-clause-room : goal.execute-requires-clause-room
+execute-requires-clause-room g c = has_room (queue_at Command (g.L.Link.queues c.self.inside.link)) c.self.invariant.1
+
+pub execute-requires-clause-frames : goal.execute-requires-clause-frames
+execute-requires-clause-frames g c =
+    few_frames c.self.inside.script (world_of c.self.inside.script c.self.inside.guest c.self.inside.host (queue_at Command (g.L.Link.queues c.self.inside.link))) c.self.invariant.0
 
 pub invariant_of-self-in-Execute : goal.invariant_of-self-in-Execute
 invariant_of-self-in-Execute g c =
