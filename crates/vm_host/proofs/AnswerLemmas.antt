@@ -1,5 +1,5 @@
 -- Lemmas on what the device answers.
-use Rattle.std.proofs.Common.{◌≡◌, ℕ, Bool, true, Option, Some, None, is_some, IfSome, IfErr, OnOk, OnErr, Result, Ok, Err, List, [], ◌∷◌, ◌++◌, length, get_or, set, refl, sym, ap, ◌∙◌, subst}
+use Rattle.std.proofs.Common.{◌≡◌, ℕ, zero, suc, Bool, true, Option, Some, None, is_some, IfSome, IfErr, OnOk, OnErr, Result, Ok, Err, List, [], ◌∷◌, ◌++◌, length, get_or, set, refl, sym, ap, ◌∙◌, subst}
 use Rattle.std.proofs.lemmas.List.{length-map, append-nil}
 use Rattle.slab.specs.Slab.{Slab, get, Updates}
 use Rattle.v4l_const.specs.declared.errno.Errno.{Errno}
@@ -75,6 +75,24 @@ pub held_by : (old new : Slab Session) (key : ℕ) (outcome : Result IoctlAnswer
     → Calls old new key outcome payload payload' held held' result → held' ≡ held ++ back_of outcome
 held_by old new key (Ok a) payload payload' held held' result calls = calls.2
 held_by old new key (Err e) payload payload' held held' result calls = calls.2 ∙ sym (append-nil held)
+
+abbrev session_or : Session → Option Session → Session
+session_or d None = d
+session_or d (Some s) = s
+
+pub one_session : (s t : Session) → Some s ≡ Some t → s ≡ t
+one_session s t same = ap (session_or s) same
+
+set_back : {A : Type 0} (xs : List A) (i : ℕ) (d : A) → set xs i (get_or xs i d) ≡ xs
+set_back [] i d = refl
+set_back (x ∷ xs) zero d = refl
+set_back (x ∷ xs) (suc i) d = ap (λ ys. x ∷ ys) (set_back xs i d)
+
+-- a refused call writes back what was there
+pub slots_kept : (slab : Slab Session) (key : ℕ) (old new : Session) (result : Result (Unit {0}) Errno) → get slab key ≡ Some old → OnErr result (new ≡ old)
+    → OnErr result (set slab.slots key (Some new) ≡ slab.slots)
+slots_kept slab key old new (Ok done) found same = tt
+slots_kept slab key old new (Err e) found same = ap (λ o. set slab.slots key o) (ap Some same ∙ sym found) ∙ set_back slab.slots key None
 
 -- what a session does with a call is what the call leaves
 pub called_in : (old new : Slab Session) (key : ℕ) (s s' : Session) (code : IoctlCode) (payload payload' : List ℕ) (held held' : List Held) (result : Result (Unit {0}) Errno)

@@ -52,7 +52,7 @@ answered descs p p' held h h' used room bytes d r enough is read exact given cou
     let P : Result Command CmdFault → Type 0 = λ x. IsGiven (λ memory. answer_to memory h x) r given.0 h' in
     let Q : Bool → Type 0 = λ b. AnswersIf b descs p h (record { used = used; parcel = p' }) h' in
     let test : nat_lt (writable_bytes descs) 8 ≡ false = ap (λ n. nat_lt n 8) (sym is) ∙ no_less room enough in
-    subst Q (sym test) (r, given.0, subst P asked given.1, rw (count, pages, given.2) refl)
+    subst Q (sym test) (r, given.0, subst P asked given.1.0, rw (count, pages, given.1.1) refl)
 
 take-front : {A : Type 0} (xs ys : List A) → take (length xs) (xs ++ ys) ≡ xs
 take-front [] ys = refl
