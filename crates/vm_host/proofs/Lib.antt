@@ -5,3 +5,4 @@ pub mod GrowthLemmas
 pub mod ServeLemmas
 pub mod SessionLemmas
 pub mod SpreadLemmas
+pub mod PartLemmas

@@ -1,5 +1,5 @@
 -- The device's part of each step, over what is said on the link. Nothing here reads the driver's side.
-use Rattle.std.specs.Prelude.{ℕ, Bool, List, [], Result, Ok, Err, nat_lt, if◌then◌else◌}
+use Rattle.std.specs.Prelude.{ℕ, ◌≡◌, Bool, List, [], Result, Ok, Err, nat_lt, length, if◌then◌else◌}
 use Rattle.vm_chain.specs.Chain.{writable_bytes}
 use Rattle.vm_chain.specs.declared.desc.Desc.{Desc}
 use Rattle.vm_chain.specs.declared.fault.ChainFault.{ChainFault}
@@ -34,3 +34,9 @@ executed_ask memory h who (Judged asked) = finishing who (answer_to memory h ask
 -- what the device does with a request. Whether memory came is free.
 abbrev pub executed : Bool → HostState → Request → Finishing
 executed memory h r = executed_ask memory h r.who r.asks
+
+-- What a parcel asks is done as the device's part of its step says, with memory or without: the device after is that part's,
+-- and so many bytes were written as its reply has.
+abbrev pub IsPart : HostState → Parcel → ℕ → HostState → Type 0
+IsPart h p used h' =
+    (memory : Bool) × (h' ≡ (executed memory h (request_of p)).host) × (used ≡ length (executed memory h (request_of p)).reply.bytes)

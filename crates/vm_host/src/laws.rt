@@ -4,6 +4,10 @@ ghost use Rattle.std.specs.Prelude.{ℕ, ◌≡◌, ◌≤◌, List, length, map
 ghost use Rattle.vm_chain.specs.Chain.{writable_bytes};
 ghost use Rattle.vm_chain.specs.declared.desc.Desc.{Desc};
 ghost use Rattle.vm_mem.specs.declared.page.Page.{Page};
+ghost use Rattle.vm_link.specs.declared.parcel.Parcel.{Parcel};
+ghost use Rattle.vm_host.specs.Sessions.{HostState};
+ghost use Rattle.vm_host.specs.Host.{Sent, Serves, chain_in};
+ghost use Rattle.vm_host.specs.Part.{IsPart};
 ghost use Rattle.vm_host.specs.Carrier.{bytes_at, overlaid, written, writable_of, AreApart, AreThere, IsUnwritten};
 
 /// Where a chain's writable descriptors have no byte in common, a reply stands at the front of what may be written, in
@@ -15,4 +19,10 @@ pub fn replies_are_spread()
         bytes_at e (written descs reply pages) ≡ bytes_at e pages }
     ensures pages { (descs : List Desc) (reply : List ℕ) (pages : List Page) →
         map (λ page. page.number) (written descs reply pages) ≡ map (λ page. page.number) pages }
+{}
+
+/// Serving a chain is the device's part of its step, over what the chain says: the two texts agree.
+#[tactic(auto, using(crate::proofs::PartLemmas::serves_part))]
+pub fn serving_is_the_part()
+    ensures { (p : Parcel) (h next : HostState) (sent : Sent) → Serves (chain_in p) p h sent next → IsPart h p sent.used next }
 {}

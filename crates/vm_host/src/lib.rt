@@ -7,7 +7,7 @@ mod laws;
 mod sessions;
 
 pub use host::Host;
-pub use laws::replies_are_spread;
+pub use laws::{replies_are_spread, serving_is_the_part};
 
 #[cfg(test)]
 mod tests;
