@@ -44,7 +44,7 @@ fn make_by_pixels<const F: u32, const G: u32, const P: u32>(line: &Line, w: u32,
     let wide = w as usize;
     for x in 0..wide {
         let (luma, chroma) = (luma_of(order, line, wide, x), chroma_of(order, line, wide, x));
-        put_pixel(kind, out, x, luma, chroma);
+        put_pixel(order, kind, out, x, luma, chroma);
     }
 }
 

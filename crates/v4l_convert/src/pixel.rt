@@ -48,19 +48,31 @@ pub fn chroma_of(order: SampleOrder, line: &[u8], w: usize, x: usize) -> u8
     }
 }
 
-/// Sets what the pixel `x` has in a line, and nothing else.
-pub fn put_pixel(kind: LineKind, out: &mut [u8], x: usize, luma: u8, chroma: u8)
+/// Sets what the pixel `x` of a row of this order has in a line, and nothing else.
+pub fn put_pixel(
+    order: SampleOrder,
+    kind: LineKind,
+    out: &mut [u8],
+    x: usize,
+    luma: u8,
+    chroma: u8,
+)
     requires place { 2 * x + 2 ≤ length out.old }
     ensures { out.new ≡ take (2 * x) out.old ++ (pixel_bytes kind luma chroma ++ drop (2 * x + 2) out.old) }
 {
-    let bytes = match kind {
-        LineKind::LumaFirst => two_bytes(luma, chroma),
-        _ => two_bytes(chroma, luma),
+    let (first, second) = match kind {
+        LineKind::LumaFirst => (luma, chroma),
+        _ => (chroma, luma),
+    };
+    let bytes = match order {
+        SampleOrder::Grey => [first, second],
+        _ => two_bytes(first, second),
     };
     out[2 * x..2 * x + 2].copy_from_slice(&bytes);
 }
 
-/// Two bytes by way of their number, so that the compiler sees two neighbours that change places as one step.
+/// Two bytes by way of their number: the compiler then sees two neighbours that change places as one step. Where one of
+/// them is always the same it does better without.
 fn two_bytes(first: u8, second: u8) -> [u8; 2]
     ensures { result ≡ first ∷ second ∷ [] }
 {
