@@ -43,7 +43,8 @@ fn make_by_pixels<const F: u32, const G: u32, const P: u32>(line: &Line, w: u32,
     let (order, kind) = (order_at(F), kind_at(order_at(G), P));
     let wide = w as usize;
     for x in 0..wide {
-        let (luma, chroma) = (luma_of(order, line, wide, x), chroma_of(order, line, wide, x));
+        let luma = luma_of(order, line, wide, x);
+        let chroma = chroma_of(order, line, wide, x);
         put_pixel(order, kind, out, x, luma, chroma);
     }
 }

@@ -7,8 +7,8 @@ use v4l_format::SampleOrder;
 /// What a grey pixel has as its colour differences.
 pub const NEUTRAL: u8 = 128;
 
-/// Whether a line is made pixel by pixel: one in which Y and colour differences stand by turns, from a row that has both
-/// for each pixel's place.
+/// Whether a line is made pixel by pixel: one in which Y and colour differences stand by turns,
+/// from a row that has both for each pixel's place.
 pub fn goes_by_pixels(order: SampleOrder, kind: LineKind) -> bool
     ensures { result ≡ goes_by_pixels order kind }
 {
@@ -34,7 +34,8 @@ pub fn luma_of(order: SampleOrder, line: &[u8], w: usize, x: usize) -> u8
     }
 }
 
-/// What stands at the place of the pixel `x` of a row: of two pixels the left has their Cb and the right their Cr.
+/// What stands at the place of the pixel `x` of a row: of two pixels the left has their Cb and
+/// the right their Cr.
 pub fn chroma_of(order: SampleOrder, line: &[u8], w: usize, x: usize) -> u8
     requires across { x < w }
     requires whole { 3 * w ≤ length line.now }
@@ -49,14 +50,7 @@ pub fn chroma_of(order: SampleOrder, line: &[u8], w: usize, x: usize) -> u8
 }
 
 /// Sets what the pixel `x` of a row of this order has in a line, and nothing else.
-pub fn put_pixel(
-    order: SampleOrder,
-    kind: LineKind,
-    out: &mut [u8],
-    x: usize,
-    luma: u8,
-    chroma: u8,
-)
+pub fn put_pixel(order: SampleOrder, kind: LineKind, out: &mut [u8], x: usize, luma: u8, chroma: u8)
     requires place { 2 * x + 2 ≤ length out.old }
     ensures { out.new ≡ take (2 * x) out.old ++ (pixel_bytes kind luma chroma ++ drop (2 * x + 2) out.old) }
 {
@@ -71,8 +65,8 @@ pub fn put_pixel(
     out[2 * x..2 * x + 2].copy_from_slice(&bytes);
 }
 
-/// Two bytes by way of their number: the compiler then sees two neighbours that change places as one step. Where one of
-/// them is always the same it does better without.
+/// Two bytes by way of their number: the compiler then sees two neighbours that change places as
+/// one step. Where one of them is always the same it does better without.
 fn two_bytes(first: u8, second: u8) -> [u8; 2]
     ensures { result ≡ first ∷ second ∷ [] }
 {
