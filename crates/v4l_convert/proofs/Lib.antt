@@ -3,3 +3,4 @@ pub mod ListLemmas
 pub mod LineLemmas
 pub mod PlaneLemmas
 pub mod PictureLemmas
+pub mod PixelLemmas

@@ -1,6 +1,6 @@
 -- A picture is made of planes, and a plane of lines. A line carries the pixels of one row, by pairs of
 -- pixels side by side.
-use Rattle.std.specs.Prelude.{ℕ, ◌+◌, ◌*◌, ◌/◌, List, [], ◌∷◌, slice_index_or}
+use Rattle.std.specs.Prelude.{ℕ, ◌+◌, ◌*◌, ◌/◌, Bool, true, false, List, [], ◌∷◌, slice_index, slice_index_or}
 use Rattle.std.specs.List.{flat_map, range_with_len}
 use Rattle.v4l_convert.specs.declared.line_kind.LineKind.{LineKind}
 use Rattle.v4l_convert.specs.declared.line_kind.LineKind.TheVariants.{Luma, LumaFirst, ChromaFirst, Chroma, BlueChroma, RedChroma, Primaries}
@@ -82,6 +82,54 @@ turned_pixel order kind w h bytes y x = turned (colours_of order) (colours_in ki
 abbrev pub converted_pair : SampleOrder → LineKind → ℕ → ℕ → List ℕ → ℕ → ℕ → List ℕ
 converted_pair order kind w h bytes y k =
     pair_bytes kind (turned_pixel order kind w h bytes y (2 * k)) (turned_pixel order kind w h bytes y (2 * k + 1))
+
+-- the Y of the pixel x of a row that stands in these bytes
+abbrev pub luma_in : SampleOrder → List ℕ → ℕ → ℕ
+luma_in Grey bytes x = slice_index bytes x
+luma_in Yuyv bytes x = slice_index bytes (2 * x)
+luma_in Uyvy bytes x = slice_index bytes (2 * x + 1)
+luma_in Nv12 bytes x = slice_index bytes x
+luma_in Yu12 bytes x = slice_index bytes x
+luma_in Rgb3 bytes x = slice_index bytes x
+
+-- what stands at its place, in a row of w pixels: the Cb of two pixels at the left one's, the Cr at the
+-- right one's
+abbrev pub chroma_in : SampleOrder → ℕ → List ℕ → ℕ → ℕ
+chroma_in Grey w bytes x = 128
+chroma_in Yuyv w bytes x = slice_index bytes (2 * x + 1)
+chroma_in Uyvy w bytes x = slice_index bytes (2 * x)
+chroma_in Nv12 w bytes x = slice_index bytes (2 * w + x)
+chroma_in Yu12 w bytes x = 128
+chroma_in Rgb3 w bytes x = 128
+
+-- the rows that have both
+abbrev pub has_places : SampleOrder → Bool
+has_places Grey = true
+has_places Yuyv = true
+has_places Uyvy = true
+has_places Nv12 = true
+has_places Yu12 = false
+has_places Rgb3 = false
+
+-- the lines that are made of these
+abbrev pub goes_by_pixels : SampleOrder → LineKind → Bool
+goes_by_pixels order Luma = false
+goes_by_pixels order LumaFirst = has_places order
+goes_by_pixels order ChromaFirst = has_places order
+goes_by_pixels order Chroma = false
+goes_by_pixels order BlueChroma = false
+goes_by_pixels order RedChroma = false
+goes_by_pixels order Primaries = false
+
+-- what a pixel has in them
+abbrev pub pixel_bytes : LineKind → ℕ → ℕ → List ℕ
+pixel_bytes Luma luma chroma = chroma ∷ luma ∷ []
+pixel_bytes LumaFirst luma chroma = luma ∷ chroma ∷ []
+pixel_bytes ChromaFirst luma chroma = chroma ∷ luma ∷ []
+pixel_bytes Chroma luma chroma = chroma ∷ luma ∷ []
+pixel_bytes BlueChroma luma chroma = chroma ∷ luma ∷ []
+pixel_bytes RedChroma luma chroma = chroma ∷ luma ∷ []
+pixel_bytes Primaries luma chroma = chroma ∷ luma ∷ []
 
 -- the line of a picture's row y
 unfoldable pub converted_line : SampleOrder → LineKind → ℕ → ℕ → List ℕ → ℕ → List ℕ

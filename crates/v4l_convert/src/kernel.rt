@@ -10,8 +10,8 @@ use crate::plane::{write_first, write_plane};
 use v4l_format::{Fmt, SampleOrder, sizeimage};
 use vm_mem::Store;
 
-/// Converts a picture of the format in place `F` of the table of formats to that in place `G`: plane by plane, and as a
-/// whole where the formats are the same.
+/// Converts a picture of the format in place `F` of the table of formats to that in place `G`:
+/// plane by plane, and as a whole where the formats are the same.
 pub fn kernel<const F: u32, const G: u32, S: Store, D: Store>(
     src_fmt: &Fmt,
     src: &S,

@@ -7,6 +7,7 @@ mod line;
 mod line_kind;
 mod pair;
 mod pairs;
+mod pixel;
 mod plane;
 
 pub use pairs::convert;

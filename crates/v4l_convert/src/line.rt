@@ -1,11 +1,12 @@
-ghost use Rattle.std.specs.Prelude.{◌≡◌, ◌<◌, ◌≤◌, ◌+◌, ◌*◌, ◌/◌, ℕ, length, take, drop, slice_index};
-ghost use Rattle.v4l_convert.specs.Lines.{converted_line, kind_at, line_size, order_at, planes_of};
+ghost use Rattle.std.specs.Prelude.{◌≡◌, ◌<◌, ◌≤◌, ◌+◌, ◌*◌, ◌/◌, ℕ, true, length, take, drop, slice_index};
+ghost use Rattle.v4l_convert.specs.Lines.{converted_line, goes_by_pixels, kind_at, line_size, order_at, planes_of};
 ghost use Rattle.v4l_format.specs.Fmt.{IsFitting};
 ghost use Rattle.v4l_format.specs.FormatRow.{single_planar};
 ghost use Rattle.v4l_format.specs.SampleOrder.{picture_bytes, pixel_in};
 
 use crate::line_kind::{colours_in, kind_at, order_at};
 use crate::pair::{Pair, pair_of, put_pair};
+use crate::pixel::{chroma_of, goes_by_pixels, luma_of, put_pixel};
 use v4l_format::SampleOrder;
 use vm_mem::Store;
 
@@ -17,6 +18,39 @@ pub type Line = [u8; MOST];
 
 /// Makes of the row in `line` the line of plane `P` of a picture of format `G`.
 pub fn make_line<const F: u32, const G: u32, const P: u32>(line: &Line, w: u32, out: &mut Line)
+    requires source { F < length single_planar }
+    requires target { G < length single_planar }
+    requires plane { P < length (planes_of (order_at G)) }
+    requires width { IsFitting 640 w }
+    ensures { take (line_size (kind_at (order_at G) P) w) out.new ≡ converted_line (order_at F) (kind_at (order_at G) P) w 2 line.now 0 }
+{
+    if goes_by_pixels(order_at(F), kind_at(order_at(G), P)) {
+        make_by_pixels::<F, G, P>(line, w, out);
+    } else {
+        make_by_pairs::<F, G, P>(line, w, out);
+    }
+}
+
+/// The same pixel by pixel.
+fn make_by_pixels<const F: u32, const G: u32, const P: u32>(line: &Line, w: u32, out: &mut Line)
+    requires source { F < length single_planar }
+    requires target { G < length single_planar }
+    requires plane { P < length (planes_of (order_at G)) }
+    requires width { IsFitting 640 w }
+    requires by_pixels { goes_by_pixels (order_at F) (kind_at (order_at G) P) ≡ true }
+    ensures { take (line_size (kind_at (order_at G) P) w) out.new ≡ converted_line (order_at F) (kind_at (order_at G) P) w 2 line.now 0 }
+{
+    let (order, kind) = (order_at(F), kind_at(order_at(G), P));
+    let wide = w as usize;
+    for x in 0..wide {
+        let luma = luma_of(order, line, wide, x);
+        let chroma = chroma_of(order, line, wide, x);
+        put_pixel(order, kind, out, x, luma, chroma);
+    }
+}
+
+/// The same by pairs of pixels side by side.
+fn make_by_pairs<const F: u32, const G: u32, const P: u32>(line: &Line, w: u32, out: &mut Line)
     requires source { F < length single_planar }
     requires target { G < length single_planar }
     requires plane { P < length (planes_of (order_at G)) }

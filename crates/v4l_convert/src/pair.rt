@@ -3,10 +3,8 @@ ghost use Rattle.v4l_convert.specs.Lines.{pair_bytes, pair_size};
 ghost use Rattle.v4l_format.specs.SampleOrder.{pixel_in};
 
 use crate::line_kind::LineKind;
+use crate::pixel::NEUTRAL;
 use v4l_format::{SampleOrder, Triple};
-
-/// What a grey pixel has as its colour differences.
-const NEUTRAL: u8 = 128;
 
 /// Two pixels side by side.
 pub struct Pair {

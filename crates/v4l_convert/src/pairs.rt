@@ -20,8 +20,8 @@ macro_rules! to_each {
     };
 }
 
-/// Sets the picture in `dst` to that in `src`, converted to another format of the same size. What `dst` has behind the
-/// picture stays. Source: own.
+/// Sets the picture in `dst` to that in `src`, converted to another format of the same size. What
+/// `dst` has behind the picture stays. Source: own.
 pub fn convert<S: Store, D: Store>(src_fmt: &Fmt, src: &S, dst_fmt: &Fmt, dst: &mut D)
     requires source_adjusted { IsAdjusted src_fmt.now }
     requires adjusted { IsAdjusted dst_fmt.now }

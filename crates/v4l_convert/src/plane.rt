@@ -11,8 +11,8 @@ use crate::line_kind::{kind_at, order_at, pair_size, rows_of};
 use v4l_format::SampleOrder;
 use vm_mem::Store;
 
-/// Writes plane `P` of a picture of format `G`, converted from one of format `F`, from the byte `start` on. Answers where
-/// the plane ends.
+/// Writes plane `P` of a picture of format `G`, converted from one of format `F`, from the byte
+/// `start` on. Answers where the plane ends.
 pub fn write_plane<const F: u32, const G: u32, const P: u32, S: Store, D: Store>(
     src: &S,
     dst: &mut D,

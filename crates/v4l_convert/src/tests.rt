@@ -42,7 +42,8 @@ fn filled(seed: u8) -> Block {
     Block { bytes }
 }
 
-/// A picture of 16 by 16 pixels is converted byte for byte as by the plain slow form, and no byte behind it is set.
+/// A picture of 16 by 16 pixels is converted byte for byte as by the plain slow form, and no byte
+/// behind it is set.
 fn agrees(rt: &impl Abort, from: FourCc, to: FourCc, seed: u8) {
     let (src_fmt, dst_fmt) = (adjust(from, 16, 16), adjust(to, 16, 16));
     assert!(rt; src_fmt.width == dst_fmt.width && src_fmt.height == dst_fmt.height);

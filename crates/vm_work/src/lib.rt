@@ -1,7 +1,6 @@
 //! A job's work: past a gate, one try of the engine, and the picture where that went well.
 #![tactic(auto)]
 
-mod convert;
 mod gate;
 mod working;
 

@@ -5,7 +5,7 @@ ghost use Rattle.vm_io.specs.Faults.{Rose};
 ghost use Rattle.vm_job.specs.Job.{IsJob, CameBack, HasPicture, picture_of};
 
 use crate::Gate;
-use crate::convert::convert;
+use v4l_convert::convert;
 use v4l_pattern::fill_pattern;
 use vm_frame::Held;
 use vm_io::Engine;

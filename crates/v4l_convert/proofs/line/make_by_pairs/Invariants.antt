@@ -1,7 +1,7 @@
 use Rattle.std.proofs.Common.{◌≡◌, ◌*◌, take, length}
 use Rattle.std.specs.List.{flat_map, range_with_len}
 use Rattle.v4l_convert.specs.Lines.{converted_pair, pair_size}
-use Rattle.v4l_convert.proofs.line.make_line.Given as goal
+use Rattle.v4l_convert.proofs.line.make_by_pairs.Given as goal
 
 -- the pairs so far
 abbrev pub invariant-loop-k : goal.invariant-loop-k

@@ -2,7 +2,7 @@ use Rattle.std.proofs.Common.{◌≡◌, arith, ap, ◌∙◌}
 use Rattle.v4l_convert.proofs.LineLemmas.{length_pair, made_line, pair_fits}
 use Rattle.v4l_convert.proofs.ListLemmas.{written_more}
 use Rattle.v4l_convert.specs.Lines.{converted_pair, kind_at, pair_bytes, pair_size}
-use Rattle.v4l_convert.proofs.line.make_line.Goals as goal
+use Rattle.v4l_convert.proofs.line.make_by_pairs.Goals as goal
 
 pub loop-k-preserved : goal.loop-k-preserved
 loop-k-preserved g c =
