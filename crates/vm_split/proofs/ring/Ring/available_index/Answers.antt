@@ -1,0 +1,8 @@
+use Rattle.std.proofs.Common.{rules, arith}
+use Rattle.std.proofs.lemmas.Grind.{common_steps}
+use Rattle.vm_split.specs.Ring.{contents_of}
+use Rattle.vm_split.proofs.ring.Ring.available_index.Goals as goal
+
+pub returns : goal.returns
+unfolding contents_of
+returns c = search rules
