@@ -10,11 +10,12 @@ use Rattle.std.proofs.lemmas.List.Sums.{sum_by-append, sum_by_push, sum_by-cons}
 use Rattle.vm_chain.specs.declared.desc.Desc.{Desc}
 use Rattle.vm_link.specs.declared.parcel.Parcel.{Parcel}
 use Rattle.vm_link.specs.Parcel.{IsPostable}
-use Rattle.vm_link.specs.PlainQueue.{occurrences}
+use Rattle.vm_mem.specs.Lists.{occurrences}
+use Rattle.vm_mem.proofs.OccurrenceLemmas.{occurrences-append, occurrences-one, occurrences-other}
 use Rattle.vm_split.specs.Kept.{HoldsChains, IsWhole, IsLaid, parcel_at, no_parcel}
 use Rattle.vm_split.specs.Owners.{is_of, is_free, places_of, free_places, count_of, handed_out, taken_back}
 use Rattle.vm_split.specs.Stands.{ring_index}
-use Rattle.vm_split.proofs.ListLemmas.{occurrences-append, occurrences-one, occurrences-other, sum_apart}
+use Rattle.vm_split.proofs.ListLemmas.{sum_apart}
 use Rattle.vm_split.proofs.OwnerLemmas.{Passes, place_passes, none_passes, handed_others, handed_places, handed_free, handed_is_of, owner_counts, free_unowned, owned_not_free, taken_back_others, taken_back_free, taken_back_owner, none_from}
 
 -- a head in one of the lists has an owner, and stands there once

@@ -1,29 +1,12 @@
 -- The entries of a ring from a number on, where the ring's index or the count of what was taken rises.
-use Rattle.std.proofs.Common.{◌≡◌, ◌≢◌, ℕ, zero, suc, ◌+◌, ◌-◌, ◌%◌, ◌^◌, ◌<◌, ◌≤◌, ◌++◌, List, [], ◌∷◌, length, set, get_or, Contains, refl, ap, sym, ◌∙◌, subst, arith}
+use Rattle.std.proofs.Common.{◌≡◌, ◌≢◌, ℕ, zero, suc, ◌+◌, ◌-◌, ◌%◌, ◌^◌, ◌<◌, ◌≤◌, ◌++◌, List, [], ◌∷◌, length, set, get_or, refl, ap, sym, ◌∙◌, subst, arith}
 use Rattle.std.proofs.lemmas.Grind.{common_steps}
 use Rattle.std.proofs.lemmas.List.{get_or-set_same, get_or-set_other}
 use Rattle.std.proofs.lemmas.Nat.{mod_below}
 use Rattle.vm_split.specs.Kept.{ahead}
-use Rattle.vm_split.specs.Ring.{ring_sizes, IsRingSize}
+use Rattle.vm_split.specs.Ring.{IsRingSize}
 use Rattle.vm_split.specs.Stands.{entries_from}
-use Rattle.vm_split.proofs.RingLemmas.{size_listed, size_most}
-
--- what holds of each size
-by_size : (P : ℕ → Type 0) → P 1 → P 2 → P 4 → P 8 → P 16 → P 32 → P 64 → (size : ℕ) → IsRingSize size → P size
-by_size P a b c d e f g size sized = of_place (size_listed size sized)
-  where
-    of_place : Contains ring_sizes size → P size
-    of_place (k, within, found) = at_place k within found
-
-    at_place : (k : ℕ) → k < 7 → get_or ring_sizes k size ≡ size → P size
-    at_place zero within found = subst P found a
-    at_place (suc zero) within found = subst P found b
-    at_place (suc (suc zero)) within found = subst P found c
-    at_place (suc (suc (suc zero))) within found = subst P found d
-    at_place (suc (suc (suc (suc zero)))) within found = subst P found e
-    at_place (suc (suc (suc (suc (suc zero))))) within found = subst P found f
-    at_place (suc (suc (suc (suc (suc (suc zero)))))) within found = subst P found g
-    at_place (suc (suc (suc (suc (suc (suc (suc k))))))) within found = absurd (omega (arith, within))
+use Rattle.vm_split.proofs.RingLemmas.{by_size, size_most}
 
 -- numbers modulo a size
 wraps : (k size : ℕ) → IsRingSize size → k % 2 ^ 16 % size ≡ k % size

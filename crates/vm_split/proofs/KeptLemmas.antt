@@ -15,7 +15,8 @@ use Rattle.vm_link.specs.declared.parcel.Finished.{Finished}
 use Rattle.vm_link.specs.declared.parcel.Parcel.{Parcel}
 use Rattle.vm_link.specs.declared.parcel.Taken.{Taken}
 use Rattle.vm_link.specs.Parcel.{IsPostable, homes_of}
-use Rattle.vm_link.specs.PlainQueue.{occurrences}
+use Rattle.vm_mem.specs.Lists.{occurrences}
+use Rattle.vm_mem.proofs.OccurrenceLemmas.{occurrences-append, occurrences-one}
 use Rattle.vm_link.specs.Queue.{Queue, free_count, used_count, out_heads, done_heads, heads_of, posted, rest_of, TakesFirst, without, count_at, finished, first_finished, collected}
 use Rattle.vm_split.specs.declared.entry.UsedEntry.{UsedEntry}
 use Rattle.vm_split.specs.Kept.{Kept, ahead, waiting_heads, done_entries, done_ids, parcel_at, out_chain, done_chain, queue_of, HoldsChains, IsWhole, IsLaid, IsSound}
@@ -24,7 +25,7 @@ use Rattle.vm_split.specs.Ring.{Contents, offered, given_back, no_entry}
 use Rattle.vm_split.specs.Stands.{SplitState}
 use Rattle.vm_split.proofs.ChainLemmas.{in_lists, once, three, unowned_away, parcel_other, parcel_same, head_free, posted_holds}
 use Rattle.vm_split.proofs.EntryLemmas.{length-entries, entries_offered, entries_taken}
-use Rattle.vm_split.proofs.ListLemmas.{occurrences-append, occurrences-one, occurs, map_apart, map_key_apart, sum_same, sum_by-map, length_le_sum}
+use Rattle.vm_split.proofs.ListLemmas.{occurs, map_apart, map_key_apart, sum_same, sum_by-map, length_le_sum}
 use Rattle.vm_split.proofs.OwnerLemmas.{owner_counts, owner_within, free_unowned, handed_others, length-handed, length-taken_back, taken_back_others}
 use Rattle.vm_split.proofs.StepLemmas.{first_waits, taken_holds, others, out_once, finished_holds, collected_holds}
 

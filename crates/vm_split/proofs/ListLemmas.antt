@@ -3,7 +3,8 @@ use Rattle.std.proofs.Common.{◌≡◌, ◌≢◌, ℕ, zero, suc, ◌+◌, ◌
 use Rattle.std.proofs.lemmas.Bool.{cases_eq}
 use Rattle.std.proofs.lemmas.Bool.Decides.{nat_tests}
 use Rattle.std.proofs.lemmas.List.Sums.{sum_by-cons}
-use Rattle.vm_link.specs.PlainQueue.{occurrences}
+use Rattle.vm_mem.specs.Lists.{occurrences}
+use Rattle.vm_mem.proofs.OccurrenceLemmas.{occurrences-append, occurrences-one, occurrences-other}
 
 pub get-set_same : {A : Type 0} (xs : List A) (i : ℕ) (v : A) → i < length xs → slice_get (set xs i v) i ≡ Some v
 get-set_same [] i v within = absurd (omega (arith, within))
@@ -18,16 +19,6 @@ get-set_other (x ∷ xs) (suc i) zero v other = refl
 get-set_other (x ∷ xs) (suc i) (suc k) v other = get-set_other xs i k v (λ same. other (ap suc same))
 
 -- how often a number stands in a list
-pub occurrences-append : (n : ℕ) (xs ys : List ℕ) → occurrences n (xs ++ ys) ≡ occurrences n xs + occurrences n ys
-occurrences-append n [] ys = omega arith
-occurrences-append n (x ∷ xs) ys = grind (arith, nat_tests, occurrences-append n xs ys)
-
-pub occurrences-one : (n : ℕ) → occurrences n (n ∷ []) ≡ 1
-occurrences-one n = grind (arith, nat_tests)
-
-pub occurrences-other : (n m : ℕ) → n ≢ m → occurrences n (m ∷ []) ≡ 0
-occurrences-other n m differs = grind (arith, nat_tests)
-
 pub occurs : (n : ℕ) (xs : List ℕ) → Contains xs n → 1 ≤ occurrences n xs
 occurs n xs (k, within, found) = at_place xs k within found
   where

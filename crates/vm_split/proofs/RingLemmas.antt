@@ -1,5 +1,5 @@
 -- What a queue's page holds after a write to it.
-use Rattle.std.proofs.Common.{◌≡◌, ℕ, zero, suc, ◌+◌, ◌*◌, ◌^◌, ◌%◌, ◌<◌, ◌≤◌, ◌++◌, List, [], ◌∷◌, length, take, drop, map, set, get_or, Contains, refl, ap, ◌∙◌, arith, rules}
+use Rattle.std.proofs.Common.{◌≡◌, ℕ, zero, suc, ◌+◌, ◌*◌, ◌^◌, ◌%◌, ◌<◌, ◌≤◌, ◌++◌, List, [], ◌∷◌, length, take, drop, map, set, get_or, Contains, refl, ap, ◌∙◌, subst, arith, rules}
 use Rattle.std.specs.Int.{w16, w32, w64, from_le_bytes, to_le_bytes, next_multiple_of}
 use Rattle.std.proofs.lemmas.Bool.{eqb-true}
 use Rattle.std.proofs.lemmas.Map.Views.{Contains-from_any}
@@ -17,25 +17,27 @@ used_behind size = omega arith
 pub used_near : (size : ℕ) → used_at size ≤ 18 * size + 9
 used_near size = omega arith
 
--- the place of a size in their list
-pub size_listed : (size : ℕ) → IsRingSize size → Contains ring_sizes size
-size_listed size sized = Contains-from_any eqb-true size ring_sizes sized
-
-pub size_most : (size : ℕ) → IsRingSize size → (1 ≤ size) × (size ≤ 64)
-size_most size sized = of_place (size_listed size sized)
+-- what holds of each size
+pub by_size : (P : ℕ → Type 0) → P 1 → P 2 → P 4 → P 8 → P 16 → P 32 → P 64 → (size : ℕ) → IsRingSize size → P size
+by_size P a b c d e f g size sized = of_place (Contains-from_any eqb-true size ring_sizes sized)
   where
-    of_place : Contains ring_sizes size → (1 ≤ size) × (size ≤ 64)
+    at_place : (k : ℕ) → k < 7 → get_or ring_sizes k size ≡ size → P size
+    at_place zero within found = subst P found a
+    at_place (suc zero) within found = subst P found b
+    at_place (suc (suc zero)) within found = subst P found c
+    at_place (suc (suc (suc zero))) within found = subst P found d
+    at_place (suc (suc (suc (suc zero)))) within found = subst P found e
+    at_place (suc (suc (suc (suc (suc zero))))) within found = subst P found f
+    at_place (suc (suc (suc (suc (suc (suc zero)))))) within found = subst P found g
+    at_place (suc (suc (suc (suc (suc (suc (suc k))))))) within found = absurd (omega (arith, within))
+
+    of_place : Contains ring_sizes size → P size
     of_place (k, within, found) = at_place k within found
 
-    at_place : (k : ℕ) → k < 7 → get_or ring_sizes k size ≡ size → (1 ≤ size) × (size ≤ 64)
-    at_place zero within found = (omega (arith, found), omega (arith, found))
-    at_place (suc zero) within found = (omega (arith, found), omega (arith, found))
-    at_place (suc (suc zero)) within found = (omega (arith, found), omega (arith, found))
-    at_place (suc (suc (suc zero))) within found = (omega (arith, found), omega (arith, found))
-    at_place (suc (suc (suc (suc zero)))) within found = (omega (arith, found), omega (arith, found))
-    at_place (suc (suc (suc (suc (suc zero))))) within found = (omega (arith, found), omega (arith, found))
-    at_place (suc (suc (suc (suc (suc (suc zero)))))) within found = (omega (arith, found), omega (arith, found))
-    at_place (suc (suc (suc (suc (suc (suc (suc k))))))) within found = absurd (omega (arith, within))
+pub size_most : (size : ℕ) → IsRingSize size → (1 ≤ size) × (size ≤ 64)
+size_most = by_size (λ size. (1 ≤ size) × (size ≤ 64))
+    (omega arith, omega arith) (omega arith, omega arith) (omega arith, omega arith) (omega arith, omega arith)
+    (omega arith, omega arith) (omega arith, omega arith) (omega arith, omega arith)
 
 same_contents : (c d : Contents) → c.table ≡ d.table → c.available_index ≡ d.available_index → c.available ≡ d.available → c.used_index ≡ d.used_index → c.used ≡ d.used → c ≡ d
 same_contents c d p q r s t =

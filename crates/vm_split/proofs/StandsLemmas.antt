@@ -8,7 +8,8 @@ use Rattle.std.proofs.lemmas.List.Elements.{All-map}
 use Rattle.vm_link.specs.declared.chains.DoneChain.{DoneChain}
 use Rattle.vm_link.specs.declared.chains.OutChain.{OutChain}
 use Rattle.vm_link.specs.declared.parcel.Parcel.{Parcel}
-use Rattle.vm_link.specs.PlainQueue.{occurrences}
+use Rattle.vm_mem.specs.Lists.{occurrences}
+use Rattle.vm_mem.proofs.OccurrenceLemmas.{occurrences-append, occurrences-one}
 use Rattle.vm_link.specs.Queue.{heads_of, empty_queue}
 use Rattle.vm_split.specs.declared.entry.UsedEntry.{UsedEntry}
 use Rattle.vm_split.specs.Kept.{Kept, ahead, waiting_heads, done_entries, done_ids, parcel_at, out_chain, done_chain, queue_of, HoldsChains, IsWhole, IsSound}
@@ -17,7 +18,6 @@ use Rattle.vm_split.specs.Ring.{Contents, contents_of, available_at, used_at, no
 use Rattle.vm_split.specs.Stands.{SplitState, StandsFor, IsChainOf, entries_from, available_heads, used_entries}
 use Rattle.vm_split.proofs.ChainLemmas.{once}
 use Rattle.vm_split.proofs.KeptLemmas.{all_heads, heads_out, heads_done, waiting_length, done_length}
-use Rattle.vm_split.proofs.ListLemmas.{occurrences-append, occurrences-one}
 use Rattle.vm_split.proofs.RingLemmas.{lengths, size_most, used_near, used_behind}
 use Rattle.vm_split.proofs.WalkLemmas.{walk_ring}
 

@@ -6,11 +6,12 @@ use Rattle.std.proofs.lemmas.List.{get_or-set_same, get_or-set_other}
 use Rattle.std.proofs.lemmas.List.Sums.{sum_by-append, sum_by_push, sum_by-cons}
 use Rattle.vm_chain.specs.declared.desc.Desc.{Desc}
 use Rattle.vm_link.specs.declared.parcel.Parcel.{Parcel}
-use Rattle.vm_link.specs.PlainQueue.{occurrences}
+use Rattle.vm_mem.specs.Lists.{occurrences}
+use Rattle.vm_mem.proofs.OccurrenceLemmas.{occurrences-append, occurrences-one, occurrences-other}
 use Rattle.vm_split.specs.Kept.{HoldsChains, IsWhole, IsLaid, parcel_at, no_parcel}
 use Rattle.vm_split.specs.Owners.{is_of, is_free, places_of, free_places, count_of, handed_out, taken_back}
 use Rattle.vm_split.proofs.ChainLemmas.{in_lists, once, three, parcel_other, parcel_same, still_whole, unowned_away}
-use Rattle.vm_split.proofs.ListLemmas.{occurrences-append, occurrences-one, occurrences-other, sum_apart}
+use Rattle.vm_split.proofs.ListLemmas.{sum_apart}
 use Rattle.vm_split.proofs.OwnerLemmas.{owner_within, taken_back_others, taken_back_free, taken_back_owner}
 
 occurrences-cons : (n x : ℕ) (xs : List ℕ) → occurrences n (x ∷ xs) ≡ occurrences n (x ∷ []) + occurrences n xs

@@ -6,7 +6,7 @@ use Rattle.vm_link.specs.declared.chains.DoneChain.{DoneChain}
 use Rattle.vm_link.specs.declared.chains.OutChain.{OutChain}
 use Rattle.vm_link.specs.declared.parcel.Parcel.{Parcel}
 use Rattle.vm_link.specs.Parcel.{IsPostable}
-use Rattle.vm_link.specs.PlainQueue.{occurrences}
+use Rattle.vm_mem.specs.Lists.{occurrences}
 use Rattle.vm_link.specs.Queue.{Queue}
 use Rattle.vm_split.specs.declared.entry.UsedEntry.{UsedEntry}
 use Rattle.vm_split.specs.Owners.{is_of, places_of, count_of, free_places}

@@ -7,7 +7,7 @@ use Rattle.vm_chain.specs.declared.fault.ChainFault.{ChainFault}
 use Rattle.vm_chain.specs.Walk.{walk_of}
 use Rattle.vm_link.specs.declared.chains.DoneChain.{DoneChain}
 use Rattle.vm_link.specs.declared.parcel.Parcel.{Parcel}
-use Rattle.vm_link.specs.PlainQueue.{occurrences}
+use Rattle.vm_mem.specs.Lists.{occurrences}
 use Rattle.vm_link.specs.Queue.{Queue, empty_queue, heads_of}
 use Rattle.vm_split.specs.declared.entry.UsedEntry.{UsedEntry}
 use Rattle.vm_split.specs.Owners.{places_of, count_of}
