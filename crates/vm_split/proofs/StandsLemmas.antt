@@ -17,7 +17,7 @@ use Rattle.vm_split.specs.Owners.{places_from, places_of, free_places, count_of,
 use Rattle.vm_split.specs.Ring.{Contents, contents_of, available_at, used_at, no_entry, IsRingSize}
 use Rattle.vm_split.specs.Stands.{SplitState, StandsFor, IsChainOf, entries_from, available_heads, used_entries}
 use Rattle.vm_split.proofs.ChainLemmas.{once}
-use Rattle.vm_split.proofs.KeptLemmas.{all_heads, heads_out, heads_done, waiting_length, done_length}
+use Rattle.vm_split.proofs.KeptLemmas.{all_heads, free_is, heads_out, heads_done, waiting_length, done_length}
 use Rattle.vm_split.proofs.RingLemmas.{lengths, size_most, used_near, used_behind}
 use Rattle.vm_split.proofs.WalkLemmas.{walk_ring}
 
@@ -61,6 +61,8 @@ stands_for k bytes sound holds page =
           }));
       done = entries ∙ entries_back k.owners k.parcels (done_entries k);
       apart = λ head. rw (heads, heads_out k.owners k.out, heads_done k.owners k.parcels (done_entries k)) (once k.owners (all_heads k) head (sound.chains.heads head));
+      descriptors = sound.owners;
+      free = sym (free_is k sound);
       whole_out = All-map (λ (c : OutChain). count_of k.owners c.head ≡ c.count) (out_chain k.owners) k.out (λ i d less. refl);
       whole_done = All-map (λ (d : DoneChain). count_of k.owners d.finished.head ≡ d.count) (done_chain k.owners k.parcels) (done_entries k) (λ i d less. refl);
     }

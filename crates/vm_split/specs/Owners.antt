@@ -1,6 +1,7 @@
 -- The driver's record of which chain each descriptor lies in: for each descriptor its chain's head,
 -- or none. So no descriptor lies in two chains.
 use Rattle.std.specs.Prelude.{ℕ, suc, zero, ◌+◌, Bool, true, false, ◌==◌, if◌then◌else◌, List, [], ◌∷◌, length, map, slice_index, Option, Some, None, is_none}
+use Rattle.vm_link.specs.declared.parcel.Finished.{Finished}
 
 -- the places of those that pass, where the first stands at `at`
 abbrev pub places_from : (Option ℕ → Bool) → ℕ → List (Option ℕ) → List ℕ
@@ -38,6 +39,11 @@ handed_out (suc count) head (Some owner ∷ os) = Some owner ∷ handed_out (suc
 -- the descriptors of the chain with this head are free
 abbrev pub taken_back : ℕ → List (Option ℕ) → List (Option ℕ)
 taken_back head owners = map (λ o. if is_of head o then None else o) owners
+
+-- where a chain is collected, its descriptors are free
+abbrev pub freed : Option Finished → List (Option ℕ) → List (Option ℕ)
+freed None owners = owners
+freed (Some done) owners = taken_back done.head owners
 
 -- The lowest `count` free descriptors lie in a chain of their own, and the lowest of them is its
 -- head.

@@ -8,9 +8,9 @@ use Rattle.vm_chain.specs.Walk.{walk_of}
 use Rattle.vm_link.specs.declared.chains.DoneChain.{DoneChain}
 use Rattle.vm_link.specs.declared.parcel.Parcel.{Parcel}
 use Rattle.vm_mem.specs.Lists.{occurrences}
-use Rattle.vm_link.specs.Queue.{Queue, empty_queue, heads_of}
+use Rattle.vm_link.specs.Queue.{Queue, empty_queue, free_count, heads_of}
 use Rattle.vm_split.specs.declared.entry.UsedEntry.{UsedEntry}
-use Rattle.vm_split.specs.Owners.{places_of, count_of}
+use Rattle.vm_split.specs.Owners.{places_of, count_of, free_places}
 use Rattle.vm_split.specs.Ring.{Contents, contents_of, no_entry}
 
 -- A queue over its rings: the bytes of its page, the device's count of the chains that it took and
@@ -65,7 +65,7 @@ used_entries s =
 -- The indices say how much waits and is done. The available entries name the chains of the parcels
 -- that wait, and the used entries hold the head and the used length of each that is done. No two
 -- chains of the three lists have one head, and since a descriptor has at most one owner, it lies in
--- one chain at most.
+-- one chain at most. Each chain has as many descriptors as the lists say, and the others are free.
 pub record StandsFor (s : SplitState) : Type 0 where
   pub page : length s.bytes ≡ 4096
   pub available_index :
@@ -81,6 +81,8 @@ pub record StandsFor (s : SplitState) : Type 0 where
       used_entries s ≡
       map (λ d. record { id = d.finished.head; len = d.finished.used }) s.queue.done
   pub apart : (head : ℕ) → occurrences head (available_heads s ++ heads_of s.queue) ≤ 1
+  pub descriptors : length s.owners ≡ s.queue.size
+  pub free : length (free_places s.owners) ≡ free_count s.queue
   pub whole_out : All (λ c. count_of s.owners c.head ≡ c.count) s.queue.out
   pub whole_done : All (λ d. count_of s.owners d.finished.head ≡ d.count) s.queue.done
 

@@ -2,7 +2,7 @@ ghost use Rattle.std.specs.Prelude.{◌≡◌, ◌≤◌, Contains, IfOk, length
 ghost use Rattle.vm_link.specs.Parcel.{IsPostable};
 ghost use Rattle.vm_link.specs.Queue.{queue_at, with_queue, free_count, out_heads, posted, Takes, finished, first_finished, collected};
 ghost use Rattle.vm_split.specs.Link.{state_at, with_state, queues_of};
-ghost use Rattle.vm_split.specs.Owners.{lowest_handed_out};
+ghost use Rattle.vm_split.specs.Owners.{freed, lowest_handed_out};
 ghost use Rattle.vm_split.specs.Ring.{IsRingSize};
 ghost use Rattle.vm_split.specs.Stands.{StandsFor, CountsStay, raised, new_state};
 
@@ -43,12 +43,17 @@ impl SplitLink {
     pub fn new(alloc: Global, command: u16, event: u16) -> Result<SplitLink, Memory>
         requires command_size { IsRingSize command }
         requires event_size { IsRingSize event }
-        ensures { IfOk result (λ l. l
+        ensures value { IfOk result (λ l. l
             ≡ record { command = new_state command; event = new_state event }) }
+        ensures stands { IfOk result (λ l. StandsFor l.command × StandsFor l.event) }
     {
         let command = SplitQueue::new(alloc, command, COMMAND_PAGE)?;
         let event = SplitQueue::new(alloc, event, EVENT_PAGE)?;
-        Ok(SplitLink { command, event })
+        let link = SplitLink { command, event };
+        // By the clause of `ring` the bytes stand for the lists.
+        let _command = link.ring(QueueId::Command);
+        let _event = link.ring(QueueId::Event);
+        Ok(link)
     }
 
     /// The 4096 bytes of the queue's page: its descriptors, its available ring and its used ring.
@@ -103,7 +108,7 @@ impl Link for SplitLink {
             QueueId::Command => self.command.post(parcel),
             QueueId::Event => self.event.post(parcel),
         }
-        // The bytes stand for the lists.
+        // By the clause of `ring` its bytes stand for the lists.
         let _bytes = self.ring(q);
     }
 
@@ -112,6 +117,7 @@ impl Link for SplitLink {
             result (queue_at q (queues_of self.new)) chain.new }
         ensures queues { queues_of self.new
             ≡ with_queue q (queue_at q (queues_of self.new)) (queues_of self.old) }
+        ensures owners { (state_at q self.new).owners ≡ (state_at q self.old).owners }
         ensures count { (state_at q self.new).taken ≡ raised result (state_at q self.old).taken }
         ensures bytes { (state_at q self.new).bytes ≡ (state_at q self.old).bytes }
         ensures stands { StandsFor (state_at q self.new) }
@@ -121,6 +127,7 @@ impl Link for SplitLink {
             QueueId::Command => self.command.take(chain),
             QueueId::Event => self.event.take(chain),
         };
+        // By the clause of `ring` its bytes stand for the lists.
         let _bytes = self.ring(q);
         taken
     }
@@ -129,6 +136,7 @@ impl Link for SplitLink {
         requires { Contains (out_heads (queue_at q (queues_of self.old))) done.head }
         ensures queues { queues_of self.new
             ≡ with_queue q (finished (queue_at q (queues_of self.old)) done) (queues_of self.old) }
+        ensures owners { (state_at q self.new).owners ≡ (state_at q self.old).owners }
         ensures counts { CountsStay (state_at q self.old) (state_at q self.new) }
         ensures stands { StandsFor (state_at q self.new) }
         ensures others { self.new ≡ with_state q (state_at q self.new) self.old }
@@ -137,6 +145,7 @@ impl Link for SplitLink {
             QueueId::Command => self.command.finish(done),
             QueueId::Event => self.event.finish(done),
         }
+        // By the clause of `ring` its bytes stand for the lists.
         let _bytes = self.ring(q);
     }
 
@@ -144,6 +153,8 @@ impl Link for SplitLink {
         ensures done { result ≡ first_finished (queue_at q (queues_of self.old)).done }
         ensures queues { queues_of self.new
             ≡ with_queue q (collected (queue_at q (queues_of self.old))) (queues_of self.old) }
+        ensures owners { (state_at q self.new).owners
+            ≡ freed result (state_at q self.old).owners }
         ensures count { (state_at q self.new).collected
             ≡ raised result (state_at q self.old).collected }
         ensures bytes { (state_at q self.new).bytes ≡ (state_at q self.old).bytes }
@@ -154,6 +165,7 @@ impl Link for SplitLink {
             QueueId::Command => self.command.collect(),
             QueueId::Event => self.event.collect(),
         };
+        // By the clause of `ring` its bytes stand for the lists.
         let _bytes = self.ring(q);
         done
     }

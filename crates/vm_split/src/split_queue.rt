@@ -1,7 +1,7 @@
 ghost use Rattle.std.specs.Prelude.{◌≡◌, ◌≤◌, Contains, IfOk, length};
 ghost use Rattle.vm_link.specs.Parcel.{IsPostable};
 ghost use Rattle.vm_link.specs.Queue.{free_count, out_heads, posted, Takes, finished, first_finished, collected};
-ghost use Rattle.vm_split.specs.Owners.{lowest_handed_out};
+ghost use Rattle.vm_split.specs.Owners.{freed, lowest_handed_out};
 ghost use Rattle.vm_split.specs.Ring.{IsRingSize};
 ghost use Rattle.vm_split.specs.Stands.{StandsFor, CountsStay, raised, new_state};
 
@@ -182,6 +182,7 @@ impl SplitQueue {
         ensures done { result ≡ first_finished self.old.queue.done }
         ensures queue { self.new.queue ≡ collected self.old.queue }
         ensures bytes { self.new.bytes ≡ self.old.bytes }
+        ensures owners { self.new.owners ≡ freed result self.old.owners }
         ensures count { self.new.collected ≡ raised result self.old.collected }
         ensures taken { self.new.taken ≡ self.old.taken }
     {

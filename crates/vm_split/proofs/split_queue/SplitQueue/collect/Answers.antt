@@ -102,3 +102,18 @@ returns-clause-queue c =
     (c.take_back.ensures ∙ back_same _ _ _ _ c.as_mut_slice-2.ensures.value head) in
     let same = kept_same _ (with_collected k) refl refl refl refl owners parcels refl in
     ap (λ (k : Kept). queue_of k) same ∙ (collected_queue k sound some ∙ ap (λ (q : Queue). collected q) queue)
+
+pub returns-clause-owners : goal.returns-clause-owners
+returns-clause-owners c =
+    let k : Kept = record { size = c.self.inside.ring.size; contents = c.self.inside.ring.contents; taken = c.self.inside.taken; collected = c.self.inside.collected; owners = c.self.inside.owners.items; parcels = c.self.inside.parcels.items; out = c.self.inside.out.items } in
+    let queue = ap (λ (s : SplitState). s.queue) c.self.view_is in
+    let sound = c.self.invariant.0 in
+    let some = some_done k c.args.self.now.queue c.uncollected.result queue c.uncollected.ensures c.if-uncollected-eq0.false in
+    let first = done_is k sound some in
+    let entry : c.used_entry-entry.result ≡ first_entry k = c.used_entry-entry.ensures in
+    let head : c.used_entry-entry.result.id ≡ (first_entry k).id = ap (λ (e : UsedEntry). e.id) entry in
+    let freed = length-taken_back (first_entry k).id k.owners in
+    let owners = all_written c.self.inside.owners.len k.owners c.take_back.new.owners (taken_back (first_entry k).id k.owners) (grind (arith, common_steps)) (grind (arith, common_steps, freed))
+    (c.take_back.ensures ∙ back_same _ _ _ _ c.as_mut_slice-2.ensures.value head) in
+    let before = ap (λ (s : SplitState). s.owners) c.self.view_is in
+    owners ∙ back_same _ _ _ _ before (sym head)
