@@ -1,3 +1,5 @@
+ghost use Rattle.std.specs.Prelude.{◌≡◌, length};
+
 use super::*;
 use std::alloc::Global;
 use std::test::Fail;
@@ -51,9 +53,23 @@ fn post(link: &mut SplitLink, q: QueueId, parcel: Parcel) -> Result<(), Fail> {
     Ok(())
 }
 
+// Posts a parcel with this table.
+fn post_table(
+    alloc: Global,
+    link: &mut SplitLink,
+    q: QueueId,
+    who: u16,
+    table: &[Desc],
+) -> Result<(), Fail> {
+    let parcel = parcel(alloc, who, table)?;
+    post(link, q, parcel)
+}
+
 // Takes the first parcel, and gives it back at once.
 fn serve(link: &mut SplitLink, q: QueueId, chain: &mut Chain, used: u32) -> Result<(), Fail> {
-    let taken = link.take(q, chain).ok_or("none waits")?;
+    let Some(taken) = link.take(q, chain) else {
+        return Err(Fail::from("none waits"));
+    };
     let done = Finished {
         head: taken.head,
         used,
@@ -63,24 +79,43 @@ fn serve(link: &mut SplitLink, q: QueueId, chain: &mut Chain, used: u32) -> Resu
     Ok(())
 }
 
+// Collects the first chain that is done, and tells who posted it.
+fn collect_from(link: &mut SplitLink, q: QueueId) -> Result<u16, Fail> {
+    let done = link.collect(q).ok_or("none is done")?;
+    Ok(done.parcel.who)
+}
+
+// How many descriptors are free, and how many parcels are untaken and uncollected.
+fn counts(link: &SplitLink, q: QueueId) -> (u16, u16, u16) {
+    (link.free(q), link.untaken(q), link.uncollected(q))
+}
+
+// The bytes of a queue's page.
+fn page_of(link: &SplitLink, q: QueueId) -> &[u8]
+    ensures { length result.now ≡ 4096 }
+{
+    link.ring(q)
+}
+
+// A link of the sizes that the program has.
+fn new_link(alloc: Global) -> Result<SplitLink, Fail> {
+    Ok(SplitLink::new(alloc, 64, 16)?)
+}
+
 #[test]
 fn the_first_command_lies_on_the_ring(rt: HostRuntime) -> Result<(), Fail> {
-    let mut link = SplitLink::new(rt.alloc(), 64, 16)?;
-    post(
-        &mut link,
-        QueueId::Command,
-        parcel(rt.alloc(), 0, &ordinary())?,
-    )?;
-    let ring = link.ring(QueueId::Command);
+    let mut link = new_link(rt.alloc())?;
+    post_table(rt.alloc(), &mut link, QueueId::Command, 0, &ordinary())?;
+    let ring = page_of(&link, QueueId::Command);
     let first = [0, 0, 1, 0, 0, 0, 0, 0, 8, 0, 0, 0, 1, 0, 1, 0];
     let second = [0, 0x10, 1, 0, 0, 0, 0, 0, 0x30, 1, 0, 0, 2, 0, 0, 0];
-    assert_eq!(rt; ring.len(), 4096);
     assert_eq!(rt; &ring[..16], first.as_slice());
     assert_eq!(rt; &ring[16..32], second.as_slice());
     assert!(rt; ring[32..1024].iter().all(|byte| *byte == 0));
     assert_eq!(rt; &ring[1024..1030], [0, 0, 1, 0, 0, 0].as_slice());
     assert!(rt; ring[1030..].iter().all(|byte| *byte == 0));
-    assert!(rt; link.ring(QueueId::Event).iter().all(|byte| *byte == 0));
+    let other = page_of(&link, QueueId::Event);
+    assert!(rt; other.iter().all(|byte| *byte == 0));
     Ok(())
 }
 
@@ -125,11 +160,9 @@ fn serve_two(link: &mut SplitLink, q: QueueId, chain: &mut Chain) -> Result<(), 
     Ok(())
 }
 
-#[test]
-fn a_run_leaves_these_bytes(rt: HostRuntime) -> Result<(), Fail> {
-    let q = QueueId::Command;
-    let mut link = SplitLink::new(rt.alloc(), 4, 1)?;
-    let mut chain = Chain::room(rt.alloc(), 64)?;
+// The run: who posted what was collected, in order.
+fn run(alloc: Global, link: &mut SplitLink, q: QueueId) -> Result<[u16; 3], Fail> {
+    let mut chain = Chain::room(alloc, 64)?;
     let single = [desc(COMMAND_PAGE, 8, 0, 0)];
     let triple = [
         desc(COMMAND_PAGE, 8, NEXT, 1),
@@ -137,24 +170,26 @@ fn a_run_leaves_these_bytes(rt: HostRuntime) -> Result<(), Fail> {
         desc(REPLY_PAGE + 256, 32, WRITE, 0),
     ];
     let outside = [desc(COMMAND_PAGE + 8, 4, 0, 5)];
-    post(&mut link, q, parcel(rt.alloc(), 1, &ordinary())?)?;
-    post(&mut link, q, parcel(rt.alloc(), 2, &single)?)?;
-    serve_two(&mut link, q, &mut chain)?;
-    let mut owners = [0; 3];
-    owners[0] = link.collect(q).ok_or("none is done")?.parcel.who;
-    post(&mut link, q, parcel(rt.alloc(), 3, &single)?)?;
-    owners[1] = link.collect(q).ok_or("none is done")?.parcel.who;
-    post(&mut link, q, parcel(rt.alloc(), 4, &triple)?)?;
-    assert_eq!(rt; link.free(q), 0);
-    serve(&mut link, q, &mut chain, 1)?;
-    owners[2] = link.collect(q).ok_or("none is done")?.parcel.who;
-    post(&mut link, q, parcel(rt.alloc(), 5, &outside)?)?;
+    post_table(alloc, link, q, 1, &ordinary())?;
+    post_table(alloc, link, q, 2, &single)?;
+    serve_two(link, q, &mut chain)?;
+    let first = collect_from(link, q)?;
+    post_table(alloc, link, q, 3, &single)?;
+    let second = collect_from(link, q)?;
+    post_table(alloc, link, q, 4, &triple)?;
+    serve(link, q, &mut chain, 1)?;
+    let third = collect_from(link, q)?;
+    post_table(alloc, link, q, 5, &outside)?;
+    Ok([first, second, third])
+}
+
+#[test]
+fn a_run_leaves_these_bytes(rt: HostRuntime) -> Result<(), Fail> {
+    let mut link = SplitLink::new(rt.alloc(), 4, 1)?;
+    let owners = run(rt.alloc(), &mut link, QueueId::Command)?;
     assert_eq!(rt; owners, [2, 1, 3]);
-    assert_eq!(rt;
-        (link.free(q), link.untaken(q), link.uncollected(q)),
-        (0, 2, 0)
-    );
-    let ring = link.ring(q);
+    assert_eq!(rt; counts(&link, QueueId::Command), (0, 2, 0));
+    let ring = page_of(&link, QueueId::Command);
     assert_eq!(rt; &ring[..118], AFTER_THE_RUN.as_slice());
     assert!(rt; ring[118..].iter().all(|byte| *byte == 0));
     Ok(())
@@ -173,26 +208,41 @@ fn is_as_posted(parcel: &Parcel, who: u16) -> bool {
         && parcel.held.is_empty()
 }
 
-#[test]
-fn parcels_come_back_though_the_index_wraps(rt: HostRuntime) -> Result<(), Fail> {
-    for (q, size) in [(QueueId::Command, 64), (QueueId::Event, 16)] {
-        let mut link = SplitLink::new(rt.alloc(), 64, 16)?;
-        let mut chain = Chain::room(rt.alloc(), 64)?;
-        let mut travelling = parcel(rt.alloc(), 0, &ordinary())?;
-        for round in 0..70_000_u32 {
-            let who = (round % 65_536) as u16;
-            travelling.who = who;
-            post(&mut link, q, travelling)?;
-            serve(&mut link, q, &mut chain, round)?;
-            let back = link.collect(q).ok_or("none is done")?;
-            assert!(rt;
-                back.used == round && is_as_posted(&back.parcel, who),
-                "{round}"
-            );
-            let counts = (link.free(q), link.untaken(q), link.uncollected(q));
-            assert!(rt; counts == (size, 0, 0), "{round}");
-            travelling = back.parcel;
-        }
+// Sends a parcel round a queue of `size` descriptors, which is empty then.
+fn go_round(
+    link: &mut SplitLink,
+    q: QueueId,
+    size: u16,
+    chain: &mut Chain,
+    parcel: Parcel,
+    used: u32,
+) -> Result<Parcel, Fail> {
+    let who = parcel.who;
+    post(link, q, parcel)?;
+    serve(link, q, chain, used)?;
+    let back = link.collect(q).ok_or("none is done")?;
+    if back.used != used || !is_as_posted(&back.parcel, who) {
+        return Err(Fail::from("another parcel came back"));
+    }
+    if counts(link, q) != (size, 0, 0) {
+        return Err(Fail::from("the queue isn't empty"));
+    }
+    Ok(back.parcel)
+}
+
+fn go_rounds(alloc: Global, q: QueueId, size: u16) -> Result<(), Fail> {
+    let mut link = new_link(alloc)?;
+    let mut chain = Chain::room(alloc, 64)?;
+    let mut travelling = parcel(alloc, 0, &ordinary())?;
+    for number in 0..70_000_u32 {
+        travelling.who = (number % 65_536) as u16;
+        travelling = go_round(&mut link, q, size, &mut chain, travelling, number)?;
     }
     Ok(())
+}
+
+#[test]
+fn parcels_come_back_though_the_index_wraps(rt: HostRuntime) -> Result<(), Fail> {
+    go_rounds(rt.alloc(), QueueId::Command, 64)?;
+    go_rounds(rt.alloc(), QueueId::Event, 16)
 }
