@@ -132,17 +132,6 @@ taken_back_owner head zero h (Some owner ∷ os) = elim (cases_eq owner head) [
 ]
 taken_back_owner head (suc d) h (o ∷ os) = taken_back_owner head d h os
 
--- as many places are free as elements are
-count_places : (passes : Option ℕ → Bool) (at : ℕ) (os : List (Option ℕ)) → length (places_from passes at os) ≡ length (filter passes os)
-count_places passes at [] = refl
-count_places passes at (o ∷ os) = elim (cases_Bool (passes o)) [
-  | inl passed ↦ rw passed (ap suc (count_places passes (at + 1) os))
-  | inr failed ↦ rw failed (count_places passes (at + 1) os)
-]
-
-pub count_free_places : (os : List (Option ℕ)) → length (free_places os) ≡ count_by is_free os
-count_free_places os = count_places is_free 0 os ∙ length-filter is_free os
-
 -- the places of what is left of a list
 abbrev pub rest_of : List (Option ℕ) → ℕ → List ℕ
 rest_of os at = places_from is_free at (drop at os)

@@ -6,7 +6,13 @@ pub fn count_free(owners: &[Option<u16>]) -> u16
     requires { length owners.now ≤ 64 }
     ensures { result ≡ length (free_places owners.now) }
 {
-    owners.iter().filter(|owner| owner.is_none()).count() as u16
+    let mut count = 0;
+    for owner in owners {
+        if owner.is_none() {
+            count += 1;
+        }
+    }
+    count
 }
 
 /// Puts the lowest free descriptors into `places`, as many as it has.
