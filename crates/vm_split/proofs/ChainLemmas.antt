@@ -1,22 +1,20 @@
 -- The chains that are held stay so as one is posted, taken, finished and collected.
-use Rattle.std.proofs.Common.{◌≡◌, ◌≢◌, ℕ, zero, suc, ◌+◌, ◌-◌, ◌<◌, ◌≤◌, ◌++◌, Bool, true, false, not, ◌==◌, if◌then◌else◌, List, [], ◌∷◌, length, map, filter, take, drop, set, get_or, slice_get, slice_index, sum_by, Option, Some, None, Contains, refl, ap, sym, ◌∙◌, subst, arith, inl, inr}
+use Rattle.std.proofs.Common.{◌≡◌, ◌≢◌, ℕ, zero, suc, ◌+◌, ◌-◌, ◌<◌, ◌≤◌, ◌++◌, true, false, if◌then◌else◌, List, [], ◌∷◌, length, take, set, get_or, slice_get, Option, Some, None, refl, ap, sym, ◌∙◌, subst, arith, inl, inr}
 use Rattle.std.specs.Option.{unwrap_or}
 use Rattle.std.proofs.lemmas.Option.{slice_get_within}
-use Rattle.std.proofs.lemmas.Grind.{common_steps}
-use Rattle.std.proofs.lemmas.Bool.{cases_eq, cases_Bool, false≢true, true≢false}
-use Rattle.std.proofs.lemmas.Bool.Decides.{nat_tests}
-use Rattle.std.proofs.lemmas.List.{append_assoc, map-append, length-take-le, length_push, get_or-set_same, get_or-set_other, length-set, length-drop}
-use Rattle.std.proofs.lemmas.List.Sums.{sum_by-append, sum_by_push, sum_by-cons}
+use Rattle.std.proofs.lemmas.Bool.{cases_eq, cases_Bool}
+use Rattle.std.proofs.lemmas.List.{length-take-le, get_or-set_same, get_or-set_other, length-drop}
+use Rattle.std.proofs.lemmas.List.Sums.{sum_by-append, sum_by_push}
 use Rattle.vm_chain.specs.declared.desc.Desc.{Desc}
 use Rattle.vm_link.specs.declared.parcel.Parcel.{Parcel}
 use Rattle.vm_link.specs.Parcel.{IsPostable}
 use Rattle.vm_mem.specs.Lists.{occurrences}
 use Rattle.vm_mem.proofs.OccurrenceLemmas.{occurrences-append, occurrences-one, occurrences-other}
 use Rattle.vm_split.specs.Kept.{HoldsChains, IsWhole, IsLaid, parcel_at, no_parcel}
-use Rattle.vm_split.specs.Owners.{is_of, is_free, places_of, free_places, count_of, handed_out, taken_back}
+use Rattle.vm_split.specs.Owners.{is_of, is_free, places_of, free_places, count_of, handed_out}
 use Rattle.vm_split.specs.Stands.{ring_index}
 use Rattle.vm_split.proofs.ListLemmas.{sum_apart}
-use Rattle.vm_split.proofs.OwnerLemmas.{Passes, place_passes, none_passes, handed_others, handed_places, handed_free, handed_is_of, owner_counts, free_unowned, owned_not_free, taken_back_others, taken_back_free, taken_back_owner, none_from}
+use Rattle.vm_split.proofs.OwnerLemmas.{Passes, place_passes, none_passes, handed_others, handed_places, handed_free, handed_is_of, free_unowned, owned_not_free}
 
 -- a head in one of the lists has an owner, and stands there once
 pub in_lists : (owners : List (Option ℕ)) (all : List ℕ) (head : ℕ) → occurrences head all ≡ (if is_of head (get_or owners head None) then 1 else 0)

@@ -1,5 +1,5 @@
 -- What a queue over its rings keeps stays sound, and its lists change as the calls say.
-use Rattle.std.proofs.Common.{◌≡◌, ◌≢◌, ℕ, zero, suc, ◌+◌, ◌-◌, ◌%◌, ◌^◌, ◌<◌, ◌≤◌, ◌++◌, Bool, true, false, not, ◌==◌, List, [], ◌∷◌, length, map, filter, find, take, drop, set, get_or, slice_get, slice_index, sum_by, Option, Some, None, Contains, refl, ap, sym, ◌∙◌, subst, arith, rules, inl, inr}
+use Rattle.std.proofs.Common.{◌≡◌, ◌≢◌, ℕ, zero, suc, ◌+◌, ◌-◌, ◌%◌, ◌^◌, ◌<◌, ◌≤◌, ◌++◌, true, false, List, [], ◌∷◌, length, map, take, drop, set, get_or, slice_get, sum_by, Option, Some, None, Contains, refl, ap, sym, ◌∙◌, subst, arith, rules, inl, inr}
 use Rattle.std.specs.Option.{unwrap_or}
 use Rattle.std.specs.Result.{result_err, result_unwrap_or}
 use Rattle.std.proofs.lemmas.Bool.{cases_eq}
@@ -17,12 +17,11 @@ use Rattle.vm_link.specs.declared.parcel.Taken.{Taken}
 use Rattle.vm_link.specs.Parcel.{IsPostable, homes_of}
 use Rattle.vm_mem.specs.Lists.{occurrences}
 use Rattle.vm_mem.proofs.OccurrenceLemmas.{occurrences-append, occurrences-one}
-use Rattle.vm_link.specs.Queue.{Queue, free_count, used_count, out_heads, done_heads, heads_of, posted, rest_of, TakesFirst, without, count_at, finished, first_finished, collected}
+use Rattle.vm_link.specs.Queue.{Queue, free_count, used_count, out_heads, heads_of, posted, rest_of, TakesFirst, without, count_at, finished, first_finished, collected}
 use Rattle.vm_split.specs.declared.entry.UsedEntry.{UsedEntry}
 use Rattle.vm_split.specs.Kept.{Kept, ahead, waiting_heads, done_entries, done_ids, parcel_at, out_chain, done_chain, queue_of, HoldsChains, IsWhole, IsLaid, IsSound}
 use Rattle.vm_split.specs.Owners.{is_free, free_places, count_of, handed_out, taken_back}
 use Rattle.vm_split.specs.Ring.{Contents, offered, given_back, no_entry}
-use Rattle.vm_split.specs.Stands.{SplitState}
 use Rattle.vm_split.proofs.ChainLemmas.{in_lists, once, three, unowned_away, parcel_other, parcel_same, head_free, posted_holds}
 use Rattle.vm_split.proofs.EntryLemmas.{length-entries, entries_offered, entries_taken}
 use Rattle.vm_split.proofs.ListLemmas.{occurs, map_apart, map_key_apart, sum_same, sum_by-map, length_le_sum}

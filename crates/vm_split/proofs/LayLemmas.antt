@@ -1,7 +1,6 @@
 -- A step of laying a parcel's table into the ring's.
-use Rattle.std.proofs.Common.{◌≡◌, ◌≢◌, ℕ, ◌+◌, ◌<◌, ◌≤◌, List, length, set, get_or, slice_get, slice_index, Option, Some, option_map, sym, ap, ◌∙◌, subst, arith, inl, inr}
+use Rattle.std.proofs.Common.{◌≡◌, ◌≢◌, ℕ, ◌+◌, ◌<◌, List, length, set, slice_get, slice_index, Some, option_map, sym, ap, ◌∙◌, arith, inl, inr}
 use Rattle.std.proofs.lemmas.Bool.{cases_eq}
-use Rattle.std.proofs.lemmas.Option.{slice_get-get_or}
 use Rattle.vm_chain.specs.declared.desc.Desc.{Desc}
 use Rattle.vm_split.specs.Stands.{on_ring}
 use Rattle.vm_split.proofs.ListLemmas.{get-set_same, get-set_other}

@@ -1,10 +1,9 @@
 -- Lemmas on lists: an element that is set, and elements by which two lists don't differ.
-use Rattle.std.proofs.Common.{◌≡◌, ◌≢◌, ℕ, zero, suc, ◌+◌, ◌<◌, ◌≤◌, ◌++◌, List, [], ◌∷◌, length, map, set, get_or, slice_get, sum_by, Option, Some, Contains, refl, ap, sym, ◌∙◌, arith, inl, inr}
+use Rattle.std.proofs.Common.{◌≡◌, ◌≢◌, ℕ, zero, suc, ◌+◌, ◌<◌, ◌≤◌, List, [], ◌∷◌, length, map, set, get_or, slice_get, sum_by, Some, Contains, refl, ap, sym, ◌∙◌, arith, inl, inr}
 use Rattle.std.proofs.lemmas.Bool.{cases_eq}
 use Rattle.std.proofs.lemmas.Bool.Decides.{nat_tests}
 use Rattle.std.proofs.lemmas.List.Sums.{sum_by-cons}
 use Rattle.vm_mem.specs.Lists.{occurrences}
-use Rattle.vm_mem.proofs.OccurrenceLemmas.{occurrences-append, occurrences-one, occurrences-other}
 
 pub get-set_same : {A : Type 0} (xs : List A) (i : ℕ) (v : A) → i < length xs → slice_get (set xs i v) i ≡ Some v
 get-set_same [] i v within = absurd (omega (arith, within))

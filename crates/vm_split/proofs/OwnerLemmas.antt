@@ -1,13 +1,11 @@
 -- Lemmas on which chain each descriptor lies in.
-use Rattle.std.proofs.Common.{◌≡◌, ◌≢◌, ℕ, zero, suc, ◌+◌, ◌-◌, ◌<◌, ◌≤◌, ◌++◌, Bool, true, false, not, ◌==◌, if◌then◌else◌, List, [], ◌∷◌, length, map, take, drop, set, get_or, Option, Some, None, is_some, refl, ap, sym, ◌∙◌, subst, arith, inl, inr}
-use Rattle.std.specs.List.{count_by, filter}
+use Rattle.std.proofs.Common.{◌≡◌, ◌≢◌, ℕ, zero, suc, ◌+◌, ◌-◌, ◌<◌, ◌≤◌, ◌++◌, Bool, true, false, ◌==◌, if◌then◌else◌, List, [], ◌∷◌, length, take, drop, set, get_or, Option, Some, None, is_some, refl, ap, subst, arith, inl, inr}
 use Rattle.std.proofs.Math.Seq.{drop-cons}
 use Rattle.std.proofs.lemmas.List.{append_assoc, append-nil, get_or-take, length-take}
-use Rattle.std.proofs.lemmas.List.Sums.{length-filter}
 use Rattle.std.proofs.lemmas.Grind.{common_steps}
 use Rattle.std.proofs.lemmas.Bool.{cases_eq, cases_Bool, false≢true, true≢false}
 use Rattle.std.proofs.lemmas.Bool.Decides.{nat_tests}
-use Rattle.vm_split.specs.Owners.{places_from, places_of, free_places, count_of, is_free, is_of, handed_out, taken_back}
+use Rattle.vm_split.specs.Owners.{places_from, free_places, count_of, is_free, is_of, handed_out, taken_back}
 
 -- the lists of places of an element that passes, and of one that doesn't
 pub places_yes : (passes : Option ℕ → Bool) (at : ℕ) (o : Option ℕ) (os : List (Option ℕ)) → passes o ≡ true → places_from passes at (o ∷ os) ≡ at ∷ places_from passes (at + 1) os

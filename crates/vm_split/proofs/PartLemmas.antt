@@ -1,5 +1,5 @@
 -- Runs of bytes that are written into a longer one, and what is then read.
-use Rattle.std.proofs.Common.{◌≡◌, ℕ, zero, suc, ◌+◌, ◌*◌, ◌<◌, ◌≤◌, ◌++◌, List, [], ◌∷◌, length, take, drop, set, get_or, refl, ap, ◌∙◌, arith, rules}
+use Rattle.std.proofs.Common.{◌≡◌, ℕ, zero, suc, ◌+◌, ◌*◌, ◌<◌, ◌≤◌, ◌++◌, List, ◌∷◌, length, take, drop, set, get_or, refl, ap, ◌∙◌, arith, rules}
 use Rattle.std.proofs.lemmas.List.{places, same_lists}
 use Rattle.vm_split.specs.Ring.{parts}
 

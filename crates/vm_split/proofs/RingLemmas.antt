@@ -1,13 +1,13 @@
 -- What a queue's page holds after a write to it.
-use Rattle.std.proofs.Common.{◌≡◌, ℕ, zero, suc, ◌+◌, ◌*◌, ◌^◌, ◌%◌, ◌<◌, ◌≤◌, ◌++◌, List, [], ◌∷◌, length, take, drop, map, set, get_or, Contains, refl, ap, ◌∙◌, subst, arith, rules}
-use Rattle.std.specs.Int.{w16, w32, w64, from_le_bytes, to_le_bytes, next_multiple_of}
+use Rattle.std.proofs.Common.{◌≡◌, ℕ, zero, suc, ◌+◌, ◌*◌, ◌^◌, ◌%◌, ◌<◌, ◌≤◌, List, [], length, take, drop, map, set, get_or, Contains, refl, ap, ◌∙◌, subst, arith}
+use Rattle.std.specs.Int.{w16, w32, from_le_bytes, to_le_bytes}
 use Rattle.std.proofs.lemmas.Bool.{eqb-true}
 use Rattle.std.proofs.lemmas.Map.Views.{Contains-from_any}
 use Rattle.std.proofs.lemmas.List.{map-set, get_or-map, length-map}
-use Rattle.std.proofs.lemmas.Nat.{mod_below, from_le_bytes-to_le_bytes_2, from_le_bytes-to_le_bytes_4, from_le_bytes-to_le_bytes_8}
+use Rattle.std.proofs.lemmas.Nat.{mod_below, from_le_bytes-to_le_bytes_2}
 use Rattle.vm_chain.specs.declared.desc.Desc.{Desc}
 use Rattle.vm_split.specs.declared.entry.UsedEntry.{UsedEntry}
-use Rattle.vm_split.specs.Ring.{Contents, contents_of, available_at, used_at, desc_of, desc_bytes, entry_of, entry_bytes, ring_sizes, IsRingSize, parts}
+use Rattle.vm_split.specs.Ring.{Contents, contents_of, available_at, used_at, desc_of, entry_of, ring_sizes, IsRingSize, parts}
 use Rattle.vm_split.proofs.PartLemmas.{written, read_written, read_before, read_behind, parts_before, parts_behind, parts_set, parts_get, read_within, length-parts}
 
 -- the used ring stands behind the available ring

@@ -1,5 +1,5 @@
 -- What a queue over its rings keeps stands for its lists.
-use Rattle.std.proofs.Common.{◌≡◌, ℕ, zero, suc, ◌+◌, ◌-◌, ◌%◌, ◌^◌, ◌<◌, ◌≤◌, ◌++◌, Bool, true, false, if◌then◌else◌, List, [], ◌∷◌, length, map, take, drop, replicate, get_or, sum_by, All, Option, Some, None, refl, ap, sym, ◌∙◌, subst, arith, rules}
+use Rattle.std.proofs.Common.{◌≡◌, ℕ, zero, suc, ◌+◌, ◌≤◌, List, [], ◌∷◌, length, map, take, drop, replicate, get_or, Option, None, refl, ap, sym, ◌∙◌, arith, rules}
 use Rattle.std.specs.Int.{w16, from_le_bytes}
 use Rattle.std.specs.List.{AllZip}
 use Rattle.std.proofs.lemmas.Bool.{false≢true}
@@ -10,15 +10,15 @@ use Rattle.vm_link.specs.declared.chains.OutChain.{OutChain}
 use Rattle.vm_link.specs.declared.parcel.Parcel.{Parcel}
 use Rattle.vm_mem.specs.Lists.{occurrences}
 use Rattle.vm_mem.proofs.OccurrenceLemmas.{occurrences-append, occurrences-one}
-use Rattle.vm_link.specs.Queue.{heads_of, empty_queue}
+use Rattle.vm_link.specs.Queue.{empty_queue}
 use Rattle.vm_split.specs.declared.entry.UsedEntry.{UsedEntry}
-use Rattle.vm_split.specs.Kept.{Kept, ahead, waiting_heads, done_entries, done_ids, parcel_at, out_chain, done_chain, queue_of, HoldsChains, IsWhole, IsSound}
-use Rattle.vm_split.specs.Owners.{places_from, places_of, free_places, count_of, is_free, is_of}
+use Rattle.vm_split.specs.Kept.{Kept, waiting_heads, done_entries, parcel_at, out_chain, done_chain, queue_of, HoldsChains, IsSound}
+use Rattle.vm_split.specs.Owners.{places_from, places_of, count_of, is_free}
 use Rattle.vm_split.specs.Ring.{Contents, contents_of, available_at, used_at, no_entry, IsRingSize}
-use Rattle.vm_split.specs.Stands.{SplitState, StandsFor, IsChainOf, entries_from, available_heads, used_entries}
+use Rattle.vm_split.specs.Stands.{StandsFor, IsChainOf, entries_from}
 use Rattle.vm_split.proofs.ChainLemmas.{once}
 use Rattle.vm_split.proofs.KeptLemmas.{all_heads, free_is, heads_out, heads_done, waiting_length, done_length}
-use Rattle.vm_split.proofs.RingLemmas.{lengths, size_most, used_near, used_behind}
+use Rattle.vm_split.proofs.RingLemmas.{lengths, size_most, used_near}
 use Rattle.vm_split.proofs.WalkLemmas.{walk_ring}
 
 zip_map : {B : Type 0} (R : ℕ → B → Type 0) (f : ℕ → B) (xs : List ℕ) → ((x : ℕ) → 1 ≤ occurrences x xs → R x (f x)) → AllZip R xs (map f xs)

@@ -1,6 +1,6 @@
 -- The chains that are held stay so as one is taken, finished and collected.
-use Rattle.std.proofs.Common.{◌≡◌, ◌≢◌, ℕ, zero, suc, ◌+◌, ◌-◌, ◌<◌, ◌≤◌, ◌++◌, Bool, true, false, not, ◌==◌, if◌then◌else◌, List, [], ◌∷◌, length, map, filter, take, drop, set, get_or, slice_get, slice_index, sum_by, Option, Some, None, Contains, refl, ap, sym, ◌∙◌, subst, arith, inl, inr}
-use Rattle.std.proofs.lemmas.Bool.{cases_eq, cases_Bool, false≢true, true≢false}
+use Rattle.std.proofs.Common.{◌≡◌, ◌≢◌, ℕ, ◌+◌, ◌<◌, ◌≤◌, ◌++◌, Bool, false, not, ◌==◌, if◌then◌else◌, List, [], ◌∷◌, length, filter, set, get_or, sum_by, Option, Some, None, refl, ap, sym, ◌∙◌, subst, arith, inl, inr}
+use Rattle.std.proofs.lemmas.Bool.{cases_eq, false≢true}
 use Rattle.std.proofs.lemmas.Bool.Decides.{nat_tests}
 use Rattle.std.proofs.lemmas.List.{get_or-set_same, get_or-set_other}
 use Rattle.std.proofs.lemmas.List.Sums.{sum_by-append, sum_by_push, sum_by-cons}
@@ -8,11 +8,11 @@ use Rattle.vm_chain.specs.declared.desc.Desc.{Desc}
 use Rattle.vm_link.specs.declared.parcel.Parcel.{Parcel}
 use Rattle.vm_mem.specs.Lists.{occurrences}
 use Rattle.vm_mem.proofs.OccurrenceLemmas.{occurrences-append, occurrences-one, occurrences-other}
-use Rattle.vm_split.specs.Kept.{HoldsChains, IsWhole, IsLaid, parcel_at, no_parcel}
-use Rattle.vm_split.specs.Owners.{is_of, is_free, places_of, free_places, count_of, handed_out, taken_back}
-use Rattle.vm_split.proofs.ChainLemmas.{in_lists, once, three, parcel_other, parcel_same, still_whole, unowned_away}
+use Rattle.vm_split.specs.Kept.{HoldsChains}
+use Rattle.vm_split.specs.Owners.{is_of, count_of, taken_back}
+use Rattle.vm_split.proofs.ChainLemmas.{once, three, parcel_other, parcel_same, still_whole}
 use Rattle.vm_split.proofs.ListLemmas.{sum_apart}
-use Rattle.vm_split.proofs.OwnerLemmas.{owner_within, taken_back_others, taken_back_free, taken_back_owner}
+use Rattle.vm_split.proofs.OwnerLemmas.{taken_back_others, taken_back_free, taken_back_owner}
 
 occurrences-cons : (n x : ℕ) (xs : List ℕ) → occurrences n (x ∷ xs) ≡ occurrences n (x ∷ []) + occurrences n xs
 occurrences-cons n x xs = occurrences-append n (x ∷ []) xs

@@ -1,5 +1,5 @@
 -- What a queue over its rings keeps, and the lists that it keeps so.
-use Rattle.std.specs.Prelude.{ℕ, true, ◌≡◌, ◌≢◌, ◌≤◌, ◌<◌, ◌+◌, ◌-◌, ◌%◌, ◌^◌, if◌then◌else◌, List, [], ◌∷◌, ◌++◌, length, map, sum_by, Option, Some, None, slice_get, slice_index, slice_index_or}
+use Rattle.std.specs.Prelude.{ℕ, true, ◌≡◌, ◌≢◌, ◌≤◌, ◌<◌, ◌+◌, ◌-◌, ◌%◌, ◌^◌, if◌then◌else◌, List, [], ◌++◌, length, map, sum_by, Option, Some, None, slice_get, slice_index, slice_index_or}
 use Rattle.std.specs.Option.{unwrap_or}
 use Rattle.vm_chain.specs.declared.desc.Desc.{Desc}
 use Rattle.vm_link.specs.declared.chains.DoneChain.{DoneChain}

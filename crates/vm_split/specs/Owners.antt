@@ -1,6 +1,6 @@
 -- The driver's record of which chain each descriptor lies in: for each descriptor its chain's head,
 -- or none. So no descriptor lies in two chains.
-use Rattle.std.specs.Prelude.{ℕ, suc, zero, ◌+◌, Bool, true, false, ◌==◌, if◌then◌else◌, List, [], ◌∷◌, length, map, slice_index, Option, Some, None, is_none}
+use Rattle.std.specs.Prelude.{ℕ, suc, zero, ◌+◌, Bool, false, ◌==◌, if◌then◌else◌, List, [], ◌∷◌, length, map, slice_index, Option, Some, None, is_none}
 use Rattle.vm_link.specs.declared.parcel.Finished.{Finished}
 
 -- the places of those that pass, where the first stands at `at`

@@ -3,7 +3,7 @@
 -- Source: VIRTIO 1.3, 2.7.5 "The Virtqueue Descriptor Table", 2.7.6 "The Virtqueue Available Ring",
 -- 2.7.8 "The Virtqueue Used Ring"; that the three lie behind one another in a page of their own is
 -- own.
-use Rattle.std.specs.Prelude.{ℕ, suc, zero, true, ◌≡◌, ◌==◌, ◌+◌, ◌*◌, List, [], ◌∷◌, ◌++◌, length, take, drop, map, slice_set, ◌%◌, ◌^◌}
+use Rattle.std.specs.Prelude.{ℕ, suc, zero, true, ◌≡◌, ◌==◌, ◌+◌, ◌*◌, List, [], ◌∷◌, ◌++◌, take, drop, map, slice_set, ◌%◌, ◌^◌}
 use Rattle.std.specs.List.{list_any}
 use Rattle.std.specs.Int.{w16, w32, w64, from_le_bytes, to_le_bytes, next_multiple_of}
 use Rattle.vm_chain.specs.declared.desc.Desc.{Desc}

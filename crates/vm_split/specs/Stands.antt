@@ -1,17 +1,16 @@
 -- What it means that the bytes of a queue's rings stand for its three lists.
 -- Source: VIRTIO 1.3, 2.7 "Split Virtqueues".
-use Rattle.std.specs.Prelude.{ℕ, suc, zero, ◌≡◌, ◌<◌, ◌≤◌, ◌+◌, ◌%◌, ◌^◌, List, [], ◌∷◌, ◌++◌, length, map, replicate, Option, Some, None, Result, Ok, Err, slice_index_or, All}
+use Rattle.std.specs.Prelude.{ℕ, suc, zero, ◌≡◌, ◌≤◌, ◌+◌, ◌%◌, ◌^◌, List, [], ◌∷◌, ◌++◌, length, map, replicate, Option, Some, None, Result, Ok, Err, slice_index_or, All}
 use Rattle.std.specs.List.{AllZip}
 use Rattle.vm_chain.specs.declared.desc.Desc.{Desc}
 use Rattle.vm_chain.specs.declared.fault.ChainFault.{ChainFault}
 use Rattle.vm_chain.specs.Walk.{walk_of}
-use Rattle.vm_link.specs.declared.chains.DoneChain.{DoneChain}
 use Rattle.vm_link.specs.declared.parcel.Parcel.{Parcel}
 use Rattle.vm_mem.specs.Lists.{occurrences}
 use Rattle.vm_link.specs.Queue.{Queue, empty_queue, free_count, heads_of}
 use Rattle.vm_split.specs.declared.entry.UsedEntry.{UsedEntry}
 use Rattle.vm_split.specs.Owners.{places_of, count_of, free_places}
-use Rattle.vm_split.specs.Ring.{Contents, contents_of, no_entry}
+use Rattle.vm_split.specs.Ring.{contents_of, no_entry}
 
 -- A queue over its rings: the bytes of its page, the device's count of the chains that it took and
 -- the driver's count of those that it collected, both modulo 65,536, the driver's record of which

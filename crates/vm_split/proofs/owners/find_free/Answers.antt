@@ -1,6 +1,6 @@
-use Rattle.std.proofs.Common.{◌≡◌, ◌<◌, ◌∷◌, None, get_or, length, ap, refl, arith}
+use Rattle.std.proofs.Common.{◌<◌, None, get_or, length, ap, arith}
 use Rattle.std.proofs.lemmas.Grind.{common_steps}
-use Rattle.vm_split.proofs.OwnerLemmas.{found_one, found_first, found_none, rest_of, none_from, owned_from}
+use Rattle.vm_split.proofs.OwnerLemmas.{found_one, found_first, found_none, none_from, owned_from}
 use Rattle.vm_split.proofs.owners.find_free.Goals as goal
 use Rattle.vm_split.proofs.owners.find_free.Goals.{then-is_none, else-is_none}
 

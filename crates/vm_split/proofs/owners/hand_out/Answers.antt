@@ -1,4 +1,4 @@
-use Rattle.std.proofs.Common.{◌≡◌, ◌∙◌, None, get_or, sym, arith}
+use Rattle.std.proofs.Common.{◌∙◌, None, get_or, sym, arith}
 use Rattle.std.proofs.lemmas.Grind.{common_steps}
 use Rattle.vm_split.proofs.OwnerLemmas.{handed_one, handed_none, handed_end, none_from, some_from}
 use Rattle.vm_split.proofs.owners.hand_out.Goals as goal

@@ -1,5 +1,4 @@
-use Rattle.std.proofs.Common.{rules, arith}
-use Rattle.std.proofs.lemmas.Grind.{common_steps}
+use Rattle.std.proofs.Common.{rules}
 use Rattle.vm_split.specs.Ring.{contents_of}
 use Rattle.vm_split.proofs.ring.Ring.available_index.Goals as goal
 

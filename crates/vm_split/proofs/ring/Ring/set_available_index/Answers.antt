@@ -1,6 +1,5 @@
-use Rattle.std.proofs.Common.{◌≡◌, ◌∙◌, ◌*◌, ◌+◌, ◌%◌, sym, ap, subst, length, arith, rules}
+use Rattle.std.proofs.Common.{arith}
 use Rattle.std.proofs.lemmas.Grind.{common_steps}
-use Rattle.vm_split.specs.Ring.{contents_of}
 use Rattle.vm_split.proofs.RingLemmas.{available_index_set}
 use Rattle.vm_split.proofs.ring.Ring.set_available_index.Goals as goal
 

@@ -1,9 +1,6 @@
-use Rattle.std.proofs.Common.{◌≡◌, ◌∙◌, ℕ, ◌≤◌, List, None, replicate, length, refl, ap, sym, subst, arith, rules}
-use Rattle.std.proofs.lemmas.Grind.{common_steps}
-use Rattle.vm_split.specs.Kept.{Kept, queue_of, IsSound}
-use Rattle.vm_split.specs.Ring.{RingState, contents_of}
+use Rattle.std.proofs.Common.{◌≡◌, ◌∙◌, length, ap, sym, subst}
+use Rattle.vm_split.specs.Kept.{Kept}
 use Rattle.vm_split.specs.Stands.{SplitState, StandsFor}
-use Rattle.vm_split.proofs.KeptLemmas.{kept_same}
 use Rattle.vm_split.proofs.StandsLemmas.{stands_for}
 use Rattle.vm_split.proofs.split_queue.SplitQueue.bytes.Goals as goal
 

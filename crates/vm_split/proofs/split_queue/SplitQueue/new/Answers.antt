@@ -1,8 +1,6 @@
-use Rattle.std.proofs.Common.{◌≡◌, ◌∙◌, ℕ, ◌≤◌, List, None, replicate, length, refl, ap, sym, subst, arith, rules}
-use Rattle.std.proofs.lemmas.Grind.{common_steps}
+use Rattle.std.proofs.Common.{◌≡◌, ◌∙◌, replicate, refl, ap, sym, subst, arith}
 use Rattle.vm_split.specs.Kept.{Kept, queue_of, IsSound}
 use Rattle.vm_split.specs.Ring.{RingState, contents_of}
-use Rattle.vm_split.specs.Stands.{SplitState, StandsFor}
 use Rattle.vm_split.proofs.KeptLemmas.{kept_same}
 use Rattle.vm_split.proofs.StandsLemmas.{new_kept, new_sound, new_queue}
 use Rattle.vm_split.proofs.split_queue.SplitQueue.new.Goals as goal

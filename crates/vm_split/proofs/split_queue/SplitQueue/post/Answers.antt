@@ -1,13 +1,11 @@
-use Rattle.std.proofs.Common.{◌≡◌, ◌≢◌, ℕ, ◌+◌, ◌<◌, ◌≤◌, ◌%◌, ◌^◌, ◌++◌, List, [], ◌∷◌, length, take, set, get_or, slice_get, Option, Some, None, false, true, refl, ap, sym, ◌∙◌, subst, arith, rules}
+use Rattle.std.proofs.Common.{◌≡◌, ℕ, ◌≤◌, List, [], ◌∷◌, length, take, set, get_or, slice_get, Option, Some, None, false, true, refl, ap, sym, ◌∙◌, subst, arith}
 use Rattle.std.proofs.lemmas.Grind.{common_steps}
 use Rattle.vm_chain.specs.declared.desc.Desc.{Desc}
-use Rattle.vm_link.specs.declared.parcel.Finished.{Finished}
 use Rattle.vm_link.specs.declared.parcel.Parcel.{Parcel}
-use Rattle.vm_link.specs.Queue.{Queue, free_count, posted, finished, first_finished, collected}
-use Rattle.vm_split.specs.declared.entry.UsedEntry.{UsedEntry}
-use Rattle.vm_split.specs.Kept.{Kept, queue_of, IsSound, IsLaid, parcel_at, ahead}
-use Rattle.vm_split.specs.Owners.{is_free, free_places, handed_out, taken_back}
-use Rattle.vm_split.specs.Ring.{Contents, offered, given_back}
+use Rattle.vm_link.specs.Queue.{Queue, free_count, posted}
+use Rattle.vm_split.specs.Kept.{Kept, queue_of, IsSound, IsLaid}
+use Rattle.vm_split.specs.Owners.{is_free, free_places, handed_out}
+use Rattle.vm_split.specs.Ring.{offered}
 use Rattle.vm_split.specs.Stands.{SplitState}
 use Rattle.vm_split.proofs.KeptLemmas.{kept_same, all_written, set_same, taken_same, handed_same, offered_same, front_same, free_is, lowest, with_posted, posted_sound, posted_queue}
 use Rattle.std.proofs.lemmas.Bool.{false≢true}

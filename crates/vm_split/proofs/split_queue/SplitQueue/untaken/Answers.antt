@@ -1,11 +1,5 @@
-use Rattle.std.proofs.Common.{◌≡◌, ◌≢◌, ◌-◌, ℕ, ◌+◌, ◌<◌, ◌≤◌, ◌%◌, ◌^◌, ◌++◌, List, [], ◌∷◌, length, take, set, get_or, slice_get, Option, Some, None, false, true, refl, ap, sym, ◌∙◌, subst, arith, rules}
-use Rattle.std.proofs.lemmas.Grind.{common_steps}
-use Rattle.vm_link.specs.declared.parcel.Parcel.{Parcel}
-use Rattle.vm_link.specs.Queue.{Queue, free_count, posted, finished, first_finished, collected}
-use Rattle.vm_split.specs.declared.entry.UsedEntry.{UsedEntry}
-use Rattle.vm_split.specs.Kept.{Kept, queue_of, IsSound, IsLaid, parcel_at}
-use Rattle.vm_split.specs.Owners.{is_free, free_places, handed_out, taken_back}
-use Rattle.vm_split.specs.Ring.{offered, given_back}
+use Rattle.std.proofs.Common.{◌≡◌, ◌-◌, ◌+◌, ◌%◌, length, sym, subst}
+use Rattle.vm_split.specs.Kept.{Kept}
 use Rattle.vm_split.specs.Stands.{SplitState}
 use Rattle.vm_split.proofs.KeptLemmas.{waiting_length}
 use Rattle.vm_split.proofs.split_queue.SplitQueue.untaken.Goals as goal
