@@ -1,0 +1,11 @@
+mod ChainLemmas
+mod EntryLemmas
+mod KeptLemmas
+mod LayLemmas
+mod ListLemmas
+mod OwnerLemmas
+mod PartLemmas
+mod RingLemmas
+mod StandsLemmas
+mod StepLemmas
+mod WalkLemmas

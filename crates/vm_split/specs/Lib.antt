@@ -1,0 +1,5 @@
+pub mod Kept
+pub mod Link
+pub mod Owners
+pub mod Ring
+pub mod Stands
