@@ -8,10 +8,11 @@ ghost use Rattle.vmedia.specs.Run.{IsRun};
 
 use crate::printer::print;
 use std::alloc::Global;
-use vm_link::{Link, PlainLink};
+use vm_link::Link;
 use vm_mem::Memory;
 use vm_sched::run_schedule;
 use vm_script::Script;
+use vm_split::SplitLink;
 use vm_world::World;
 
 /// How many descriptors the queue of commands has.
@@ -39,7 +40,7 @@ pub fn run(alloc: Global, script: Script, seed: u64) -> Result<Vec<u8>, Memory>
     requires { (bytes : List ℕ) × (script_of bytes ≡ Ok script) }
     ensures { IfOk result (λ text. IsRun seed script text.items) }
 {
-    let link = PlainLink::new(alloc, COMMAND_QUEUE, EVENT_QUEUE)?;
+    let link = SplitLink::new(alloc, COMMAND_QUEUE, EVENT_QUEUE)?;
     let mut world = World::new(alloc, script, link)?;
     run_world(alloc, &mut world, seed)
 }
