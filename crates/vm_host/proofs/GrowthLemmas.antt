@@ -1,5 +1,5 @@
 -- A chain that is served opens one session at most.
-use Rattle.std.proofs.Common.{◌≡◌, ℕ, ◌≤◌, ◌+◌, Bool, true, false, Option, Some, None, is_some, Result, Ok, Err, List, [], ◌∷◌, length, if◌then◌else◌, nat_lt, refl, sym, subst, arith, zero, suc, get_or, set, ap, ◌++◌, ◌<◌, ◌-◌, ◌^◌}
+use Rattle.std.proofs.Common.{◌≡◌, ℕ, ◌≤◌, ◌+◌, ◌*◌, ◌∙◌, Bool, true, false, Option, Some, None, is_some, Result, Ok, Err, List, [], ◌∷◌, length, if◌then◌else◌, nat_lt, refl, sym, subst, arith, zero, suc, get_or, set, ap, ◌++◌, ◌<◌, ◌-◌, ◌^◌}
 use Rattle.std.proofs.lemmas.List.{length-set, length-append}
 use Rattle.v4l_const.specs.declared.errno.Errno.{Errno}
 use Rattle.v4l_const.specs.declared.errno.Errno.TheVariants.{Ebadf}
@@ -157,3 +157,10 @@ served_most n (Ok descs) p h h' sent serves most = answered_most n (nat_lt (writ
 pub executed_most : (n : ℕ) (waiting : List Parcel) (h h' : HostState) (q q' : Queue) (turn : Turn) → Executes waiting h q turn h' q' → EachMadeMost n h → EachMadeMost (n + 32) h'
 executed_most n [] h h' q q' turn executes most = unchanged_most n h h' executes.1 most
 executed_most n (p ∷ ps) h h' q q' turn executes most = served_most n (chain_in p) p h h' executes.1.1 executes.1.3 most
+
+-- one chain more is served: as many sessions may be opened, one more is opened at most, and each makes 32 frames more at most
+pub served_more : (k : ℕ) (h h' : HostState) → h'.opens ≡ h.opens → length h'.sessions ≤ length h.sessions + 1 → ((n : ℕ) → EachMadeMost n h → EachMadeMost (n + 32) h')
+    → (h.opens ≡ 64) × (length h.sessions ≤ k) × EachMadeMost (32 * k) h → (h'.opens ≡ 64) × (length h'.sessions ≤ k + 1) × EachMadeMost (32 * (k + 1)) h'
+served_more k h h' opens sessions frames was =
+    let same : 32 * k + 32 ≡ 32 * (k + 1) = omega arith in
+    (opens ∙ was.0, omega (arith, sessions, was.1), subst (λ (n : ℕ). EachMadeMost n h') same (frames (32 * k) was.2))

@@ -1,5 +1,5 @@
 -- Lemmas on the rows of calls: which of them put memories back, and what refuses them.
-use Rattle.std.proofs.Common.{◌≡◌, ℕ, ◌+◌, ◌≤◌, ◌==◌, min, if◌then◌else◌, Bool, true, false, not, ◌&&◌, Option, Result, Ok, Err, IfErr, OnOk, OnErr, List, [], ◌++◌, refl, sym, ap, ◌∙◌, arith}
+use Rattle.std.proofs.Common.{◌≡◌, ℕ, ◌+◌, ◌≤◌, ◌==◌, min, if◌then◌else◌, Bool, true, false, not, ◌&&◌, Result, Ok, Err, IfErr, OnOk, OnErr, List, [], ◌++◌, refl, sym, ap, ◌∙◌, arith}
 use Rattle.std.proofs.lemmas.List.{append-nil}
 use Rattle.v4l_const.specs.declared.errno.Errno.{Errno}
 use Rattle.v4l_const.specs.declared.ioctl_code.IoctlCode.{IoctlCode}

@@ -4,7 +4,7 @@ use Rattle.std.specs.Prelude.{ℕ, zero, suc, ◌≡◌, ◌+◌, ◌*◌, ◌^�
 use Rattle.std.specs.List.{list_any, flat_map}
 use Rattle.std.specs.Option.{option_map, ok_or}
 use Rattle.v4l_const.specs.declared.errno.Errno.{Errno}
-use Rattle.v4l_const.specs.declared.errno.Errno.TheVariants.{Einval, Ebusy, Enomem, Enotty, Eopnotsupp}
+use Rattle.v4l_const.specs.declared.errno.Errno.TheVariants.{Einval, Ebusy, Enomem, Eopnotsupp}
 use Rattle.v4l_const.specs.declared.four_cc.FourCc.{FourCc}
 use Rattle.v4l_const.specs.declared.ioctl_code.IoctlCode.{IoctlCode}
 use Rattle.v4l_const.specs.declared.ioctl_code.IoctlCode.TheVariants.{QueryCap, EnumFmt, GFmt, SFmt, TryFmt, ReqBufs, QueryBuf, StreamOff, EnumInput, GInput, SInput}
@@ -14,7 +14,6 @@ use Rattle.v4l_const.specs.Model.{queues as types_of}
 use Rattle.v4l_format.specs.declared.fmt.Fmt.{Fmt}
 use Rattle.v4l_format.specs.Fmt.{picture_size}
 use Rattle.v4l_format.specs.FormatRow.{formats_of, grey}
-use Rattle.v4l_layout.specs.declared.request_buffers.RequestBuffers.{RequestBuffers}
 use Rattle.v4l_layout.specs.Records.{capability_bytes, fmtdesc_bytes, format_bytes, input_bytes, request_bytes, buffer_bytes}
 use Rattle.v4l_rules.specs.Formats.{first_format, taken_format, with_set_format_at}
 use Rattle.v4l_rules.specs.Queues.{QueueKind, opening_queues, queue_at, with_queue_at}

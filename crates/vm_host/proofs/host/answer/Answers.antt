@@ -30,6 +30,6 @@ returns-clause-served c =
       room = k;
     }) c.answer-response.ensures.capacity in
     subst P c.parcel.view_is (
-      answered c.args.chain.now.descs before c.write_reply.new.parcel c.answer-response.new.held.items c.args.sessions.now c.answer-response.new.self c.encode_response-len.result c.writable-writable.result
-      c.gather.new.bytes.items c.decode_command.result c.answer-response.result (omega (arith, c.if-writable-lt-STATUS_LEN.false)) c.writable-writable.ensures (search rules) (search rules) c.answer-response.ensures.given
-      c.encode_response-len.ensures.count after)
+    answered c.args.chain.now.descs before c.write_reply.new.parcel c.answer-response.new.held.items c.args.sessions.now c.answer-response.new.self c.encode_response-len.result c.writable-writable.result
+    c.gather.new.bytes.items c.decode_command.result c.answer-response.result (omega (arith, c.if-writable-lt-STATUS_LEN.false)) c.writable-writable.ensures (search rules) (search rules) c.answer-response.ensures.given
+    c.encode_response-len.ensures.count after)

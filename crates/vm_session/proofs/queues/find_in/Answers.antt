@@ -1,6 +1,5 @@
-use Rattle.std.proofs.Common.{◌≡◌, ◌<◌, true, false, is_some, length, get_or, ◌∙◌, arith}
+use Rattle.std.proofs.Common.{◌≡◌, ◌<◌, true, false, is_some, length, arith}
 use Rattle.std.proofs.lemmas.Grind.{common_steps}
-use Rattle.vm_session.specs.Session.{frame_at}
 use Rattle.vm_session.proofs.FrameLemmas.{found_here, found_behind}
 use Rattle.vm_session.proofs.queues.find_in.Invariants.{frames_in}
 use Rattle.vm_session.proofs.queues.find_in.Goals as goal

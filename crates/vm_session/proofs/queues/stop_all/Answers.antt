@@ -1,6 +1,6 @@
-use Rattle.std.proofs.Common.{◌≡◌, ◌+◌, ◌<◌, length, get_or, set, map, take, drop, ◌++◌, subst, ap, ◌∙◌, arith}
+use Rattle.std.proofs.Common.{◌≡◌, ◌<◌, length, get_or, set, ap, ◌∙◌, arith}
 use Rattle.std.proofs.lemmas.Grind.{common_steps}
-use Rattle.vm_session.specs.Session.{opening_queue, stopped_queue}
+use Rattle.vm_session.specs.Session.{opening_queue}
 use Rattle.vm_session.proofs.FrameLemmas.{still_there, stopped_more, one_more}
 use Rattle.vm_session.proofs.queues.stop_all.Goals as goal
 
