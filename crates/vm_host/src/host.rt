@@ -116,6 +116,13 @@ impl Host {
         })
     }
 
+    /// How many sessions were opened: their ids are the numbers below it.
+    pub fn opened(&self) -> u32
+        ensures { result ≡ length self.now.sessions }
+    {
+        self.sessions.opened()
+    }
+
     /// Takes the chain that waits first, does the command that it brings, and sends the reply back. `Idle` exactly where
     /// none waits. Where the command opens a session, fewer than `opens` sessions were opened before. Only an open and a
     /// request for buffers take memory. The chain has room for 64 memories behind those that it holds, and each session

@@ -136,6 +136,13 @@ impl Sessions {
         })
     }
 
+    /// How many sessions were opened.
+    pub(crate) fn opened(&self) -> u32
+        ensures { result ≡ length self.now.sessions }
+    {
+        self.keys.len() as u32
+    }
+
     // Opens the next session, unless there is no memory for it.
     fn open(&mut self) -> Response
         requires { length self.old.sessions < self.old.opens }
