@@ -1,5 +1,5 @@
 -- Lemmas on what the device answers.
-use Rattle.std.proofs.Common.{◌≡◌, ℕ, zero, suc, Bool, true, Option, Some, None, is_some, IfSome, IfErr, OnOk, OnErr, Result, Ok, Err, List, [], ◌∷◌, ◌++◌, length, get_or, set, refl, sym, ap, ◌∙◌, subst}
+use Rattle.std.proofs.Common.{◌≡◌, ◌<◌, ◌-◌, ◌^◌, ℕ, zero, suc, arith, Bool, true, Option, Some, None, is_some, IfSome, IfErr, OnOk, OnErr, Result, Ok, Err, List, [], ◌∷◌, ◌++◌, length, get_or, set, refl, sym, ap, ◌∙◌, subst}
 use Rattle.std.proofs.lemmas.List.{length-map, append-nil}
 use Rattle.slab.specs.Slab.{Slab, get, Updates}
 use Rattle.v4l_const.specs.declared.errno.Errno.{Errno}
@@ -7,17 +7,23 @@ use Rattle.v4l_const.specs.declared.ioctl_code.IoctlCode.{IoctlCode}
 use Rattle.v4l_const.specs.declared.ioctl_code.IoctlCode.TheVariants.{QueryCap, EnumFmt, GFmt, SFmt, TryFmt, EnumInput, GInput, SInput, ReqBufs, QueryBuf}
 use Rattle.v4l_const.specs.declared.model.Model.{Model}
 use Rattle.vm_frame.specs.declared.mem.Held.{Held}
+use Rattle.vm_region.specs.Region.{RegionState}
 use Rattle.vm_wire.specs.declared.command.Command.TheVariants.{OpenSession, CloseSession, Ioctl}
 use Rattle.vm_wire.specs.declared.response.Response.TheVariants.{Opened, Closed}
 use Rattle.vm_session.specs.declared.session.Session.{Session}
 use Rattle.vm_session.specs.Session.{IoctlAnswer, IoctlRow, Answers, MayRefuse, opening_session, ioctl_row, ioctl_outcome, refusal_of, refused_or, querycap_row, enumfmt_row, gfmt_row, tryfmt_row, sfmt_row, enuminput_row, ginput_row, sinput_row, reqbufs_row, querybuf_row}
 use Rattle.vm_host.specs.Sessions.{HostState, session_at, sessions_at, HasId, HasEachSession}
-use Rattle.vm_host.specs.Host.{performed, memories_of, Calls, called, reply_to}
+use Rattle.vm_host.specs.Host.{Performs, memories_of, Calls, called, reply_to}
+use Rattle.vm_region.specs.declared.live_range.LiveRange.{LiveRange}
+use Rattle.vm_session.proofs.CallLemmas.{made_most}
+use Rattle.vm_host.specs.Mappings.{FitsSessions}
+use Rattle.vm_host.proofs.FrameLemmas.{Follows, called_follows}
+use Rattle.vm_host.proofs.MappingLemmas.{fits_called}
 use Rattle.vm_host.proofs.SessionLemmas.{opened, changed, changed_each, closed, found_at, found_within, leads_to, live_where}
 
 -- the device by its fields
-abbrev pub device : Model → ℕ → Slab Session → List (Option ℕ) → HostState
-device model opens slab keys = record { model = model; opens = opens; sessions = sessions_at slab keys }
+abbrev pub device : Model → ℕ → RegionState → Slab Session → List (Option ℕ) → HostState
+device model opens region slab keys = record { model = model; opens = opens; sessions = sessions_at slab keys; region = region }
 
 some_of : (o : Option Session) → is_some o ≡ true → (s : Session) × (o ≡ Some s)
 some_of None is = cc
@@ -28,22 +34,22 @@ pub session_there : (slab : Slab Session) (keys : List (Option ℕ)) (key id : �
 session_there slab keys key id each stands = some_of (get slab key) (live_where slab keys key id each (found_within keys key id stands) stands)
 
 -- the answer to an open for which there is memory
-pub opened_answer : (model : Model) (opens : ℕ) (old new : Slab Session) (keys : List (Option ℕ)) (key id : ℕ)
+pub opened_answer : (model : Model) (opens : ℕ) (region : RegionState) (old new : Slab Session) (keys : List (Option ℕ)) (key id : ℕ)
     → HasEachSession old keys → id ≡ length keys → get old key ≡ None → Updates old new key (Some (opening_session model id))
-    → performed true (device model opens old keys) OpenSession ≡ record { response = Opened id; back = []; host = device model opens new (keys ++ Some key ∷ []) }
-opened_answer model opens old new keys key id each next vacant updates =
-    rw (opened old new keys key (opening_session model id) each vacant updates, length-map keys (session_at old), next) refl
+    → Performs (device model opens region old keys) OpenSession (record { response = Opened id; back = []; host = device model opens region new (keys ++ Some key ∷ []) })
+opened_answer model opens region old new keys key id each next vacant updates =
+    (true, rw (opened old new keys key (opening_session model id) each vacant updates, length-map keys (session_at old), next) refl)
 
 -- the answer to a close of a live session
-pub closed_answer : (model : Model) (opens : ℕ) (old new : Slab Session) (keys : List (Option ℕ)) (key id : ℕ)
+pub closed_answer : (model : Model) (opens : ℕ) (region : RegionState) (old new : Slab Session) (keys : List (Option ℕ)) (key id : ℕ)
     → HasEachSession old keys → get_or keys id None ≡ Some key → Updates old new key None
-    → performed true (device model opens old keys) (CloseSession id) ≡ record { response = Closed; back = memories_of (get old key); host = device model opens new (set keys id None) }
-closed_answer model opens old new keys key id each stands updates =
+    → Performs (device model opens region old keys) (CloseSession id) (record { response = Closed; back = memories_of (get old key); host = device model opens region new (set keys id None) })
+closed_answer model opens region old new keys key id each stands updates =
     let there = session_there old keys key id each stands in
     let live : get_or (sessions_at old keys) id None ≡ Some there.0 = found_at old keys key id stands ∙ there.1 in
     rw (live, there.1, closed old new keys key id each stands updates) refl
 
-same_slots : (old new : Slab Session) (keys : List (Option ℕ)) → new.slots ≡ old.slots → sessions_at new keys ≡ sessions_at old keys
+pub same_slots : (old new : Slab Session) (keys : List (Option ℕ)) → new.slots ≡ old.slots → sessions_at new keys ≡ sessions_at old keys
 same_slots old new [] same = refl
 same_slots old new (None ∷ keys) same = ap (λ ss. None ∷ ss) (same_slots old new keys same)
 same_slots old new (Some k ∷ keys) same =
@@ -56,19 +62,19 @@ abbrev pub back_of : Result IoctlAnswer Errno → List Held
 back_of (Ok a) = a.back
 back_of (Err e) = []
 
-called_by : (model : Model) (opens : ℕ) (old new : Slab Session) (keys : List (Option ℕ)) (key id : ℕ) (outcome : Result IoctlAnswer Errno) (payload payload' : List ℕ) (held held' : List Held) (result : Result (Unit {0}) Errno)
+called_by : (model : Model) (opens : ℕ) (region : RegionState) (old new : Slab Session) (keys : List (Option ℕ)) (key id : ℕ) (outcome : Result IoctlAnswer Errno) (payload payload' : List ℕ) (held held' : List Held) (result : Result (Unit {0}) Errno)
     → HasEachSession old keys → get_or keys id None ≡ Some key → Calls old new key outcome payload payload' held held' result
-    → called (device model opens old keys) id outcome ≡ record { response = reply_to result payload'; back = back_of outcome; host = device model opens new keys }
-called_by model opens old new keys key id (Ok a) payload payload' held held' result each stands calls = rw (calls.0, calls.1, changed old new keys key id a.next each stands calls.3) refl
-called_by model opens old new keys key id (Err errno) payload payload' held held' result each stands calls = rw (calls.0, same_slots old new keys calls.3) refl
+    → called (device model opens region old keys) id outcome ≡ record { response = reply_to result payload'; back = back_of outcome; host = device model opens region new keys }
+called_by model opens region old new keys key id (Ok a) payload payload' held held' result each stands calls = rw (calls.0, calls.1, changed old new keys key id a.next each stands calls.3) refl
+called_by model opens region old new keys key id (Err errno) payload payload' held held' result each stands calls = rw (calls.0, same_slots old new keys calls.3) refl
 
 -- the answer to a call in a live session
-pub called_answer : (model : Model) (opens : ℕ) (old new : Slab Session) (keys : List (Option ℕ)) (key id : ℕ) (s : Session) (code : IoctlCode) (memory : Bool) (payload payload' : List ℕ) (held held' : List Held) (result : Result (Unit {0}) Errno)
+pub called_answer : (model : Model) (opens : ℕ) (region : RegionState) (old new : Slab Session) (keys : List (Option ℕ)) (key id : ℕ) (s : Session) (code : IoctlCode) (memory : Bool) (payload payload' : List ℕ) (held held' : List Held) (result : Result (Unit {0}) Errno)
     → HasEachSession old keys → get_or keys id None ≡ Some key → get old key ≡ Some s → Calls old new key (ioctl_outcome memory s code payload) payload payload' held held' result
-    → performed memory (device model opens old keys) (Ioctl id code payload) ≡ record { response = reply_to result payload'; back = back_of (ioctl_outcome memory s code payload); host = device model opens new keys }
-called_answer model opens old new keys key id s code memory payload payload' held held' result each stands there calls =
+    → Performs (device model opens region old keys) (Ioctl id code payload) (record { response = reply_to result payload'; back = back_of (ioctl_outcome memory s code payload); host = device model opens region new keys })
+called_answer model opens region old new keys key id s code memory payload payload' held held' result each stands there calls =
     let live : get_or (sessions_at old keys) id None ≡ Some s = found_at old keys key id stands ∙ there in
-    rw live (called_by model opens old new keys key id (ioctl_outcome memory s code payload) payload payload' held held' result each stands calls)
+    (memory, rw live (sym (called_by model opens region old new keys key id (ioctl_outcome memory s code payload) payload payload' held held' result each stands calls)))
 
 -- what it puts back stands behind what was held
 pub held_by : (old new : Slab Session) (key : ℕ) (outcome : Result IoctlAnswer Errno) (payload payload' : List ℕ) (held held' : List Held) (result : Result (Unit {0}) Errno)
@@ -148,3 +154,20 @@ called_each old new keys key id s code memory payload payload' held held' result
         changed_each old new keys key id a.next
         (ap (λ x. x.id) (outcome_next (refusal_of memory (ioctl_row s code payload)) (ioctl_row s code payload) a is) ∙ next_id s code payload ∙ own) each stands calls.3
     known (Err errno) is calls = λ i inside. still old new (get_or keys i None) i (λ k. ap (λ slots. get_or slots k None) (sym calls.3)) (each i inside)
+
+-- and what is mapped still fits
+pub called_fits : (old new : Slab Session) (keys : List (Option ℕ)) (key id : ℕ) (s : Session) (code : IoctlCode) (memory : Bool) (payload payload' : List ℕ) (held held' : List Held) (result : Result (Unit {0}) Errno)
+    (ranges : List LiveRange) → HasEachSession old keys → get_or keys id None ≡ Some key → get old key ≡ Some s → s.made < 2 ^ 32 - 32
+    → Calls old new key (ioctl_outcome memory s code payload) payload payload' held held' result → FitsSessions (sessions_at old keys) ranges → FitsSessions (sessions_at new keys) ranges
+called_fits old new keys key id s code memory payload payload' held held' result ranges each stands there few calls fits = known (ioctl_outcome memory s code payload) refl calls
+  where
+    known : (o : Result IoctlAnswer Errno) → ioctl_outcome memory s code payload ≡ o → Calls old new key o payload payload' held held' result → FitsSessions (sessions_at new keys) ranges
+    known (Ok a) is calls =
+        let live : get_or (sessions_at old keys) id None ≡ Some s = found_at old keys key id stands ∙ there in
+        let next : a.next ≡ (ioctl_row s code payload).next = outcome_next (refusal_of memory (ioctl_row s code payload)) (ioctl_row s code payload) a is in
+        let follows : Follows s a.next = subst (λ (x : Session). Follows s x) (sym next) (called_follows s code payload (fits.live id s live).framed) in
+        let made : a.next.made ≡ (ioctl_row s code payload).next.made = ap (λ x. x.made) next in
+        let most = made_most s code payload in
+        subst (λ ss. FitsSessions ss ranges) (sym (changed old new keys key id a.next each stands calls.3))
+        (fits_called (sessions_at old keys) id s a.next ranges live follows (omega (arith, few, most, made)) fits)
+    known (Err errno) is calls = subst (λ ss. FitsSessions ss ranges) (sym (same_slots old new keys calls.3)) fits

@@ -1,8 +1,11 @@
 pub mod AnswerLemmas
 pub mod CarrierLemmas
 pub mod CountLemmas
+pub mod FoundLemmas
+pub mod FrameLemmas
 pub mod GrowthLemmas
+pub mod MappingLemmas
+pub mod PartLemmas
 pub mod ServeLemmas
 pub mod SessionLemmas
 pub mod SpreadLemmas
-pub mod PartLemmas

@@ -24,7 +24,7 @@ use Rattle.vm_wire.specs.declared.response.Response.{Response}
 use Rattle.vm_wire.proofs.PayloadLemmas.{need_of_front}
 use Rattle.vm_host.specs.Carrier.{readable_of, written, Fits}
 use Rattle.vm_host.specs.Sessions.{HostState}
-use Rattle.vm_host.specs.Host.{chain_in, asked_by, answer_to, IsGiven, IsGivenWith, FitsCall, Sent, Serves, AnswersIf, Served, done_as, moved_on, Executes, AsksToOpen, HasRoom}
+use Rattle.vm_host.specs.Host.{Answer, chain_in, asked_by, AnswersTo, IsGiven, FitsCall, Sent, Serves, AnswersIf, Served, done_as, moved_on, Executes, HasPlace, HasPlaceFor, HasRoom}
 use Rattle.vm_host.proofs.CarrierLemmas.{walk_fits}
 
 -- a command that is spelled has a payload of its call's size
@@ -45,14 +45,15 @@ no_less room enough = grind (arith, nat_tests)
 
 -- a chain that has room for a reply goes back with its answer
 pub answered : (descs : List Desc) (p p' : Parcel) (held : List Held) (h h' : HostState) (used room : ℕ) (bytes : List ℕ) (d : Result Command CmdFault) (r : Response) → 8 ≤ room → room ≡ writable_bytes descs
-    → bytes ≡ readable_of descs p.pages → d ≡ judged bytes room → IsGivenWith (λ memory. answer_to memory h d) r p.held held h' → used ≡ length (response_bytes r)
+    → bytes ≡ readable_of descs p.pages → d ≡ judged bytes room → IsGiven (AnswersTo h d) r p.held held h' → used ≡ length (response_bytes r)
     → p' ≡ record p { pages = written descs (response_bytes r) p.pages; held = held } → Served None descs p h used p' h'
 answered descs p p' held h h' used room bytes d r enough is read exact given count pages =
     let asked : d ≡ asked_by descs p.pages = exact ∙ ap (λ bs. judged bs room) read ∙ ap (judged (readable_of descs p.pages)) is in
-    let P : Result Command CmdFault → Type 0 = λ x. IsGiven (λ memory. answer_to memory h x) r given.0 h' in
+    let answer : Answer = record { response = r; back = given.0; host = h' } in
+    let P : Result Command CmdFault → Type 0 = λ x. AnswersTo h x answer in
     let Q : Bool → Type 0 = λ b. AnswersIf b descs p h (record { used = used; parcel = p' }) h' in
     let test : nat_lt (writable_bytes descs) 8 ≡ false = ap (λ n. nat_lt n 8) (sym is) ∙ no_less room enough in
-    subst Q (sym test) (r, given.0, subst P asked given.1.0, rw (count, pages, given.1.1) refl)
+    subst Q (sym test) (answer, subst P asked given.1, rw (count, pages, given.2) refl, refl)
 
 take-front : {A : Type 0} (xs ys : List A) → take (length xs) (xs ++ ys) ≡ xs
 take-front [] ys = refl
@@ -85,11 +86,16 @@ pub walked_fits : (q q' : Queue) (chain chain' : WalkedChain) (t : Taken) → ch
 walked_fits q q' chain chain' t limit takes none =
     walk_fits t.parcel.table 0 64 (homes_of t.parcel) chain'.descs (walked q q' chain chain' t limit takes none)
 
--- where the chain opens a session, so does the one that waited first
-pub taken_opens : (q q' : Queue) (chain chain' : WalkedChain) (t : Taken) → chain.limit ≡ 64 → TakesFirst q chain t q' chain' → t.fault ≡ None
-    → asked_by chain'.descs t.parcel.pages ≡ Ok OpenSession → AsksToOpen q.waiting
-taken_opens q q' chain chain' t limit takes none opens =
-    subst AsksToOpen (sym takes.first) (chain'.descs, walked q q' chain chain' t limit takes none, opens)
+ok_has : {A : Type 0} (P : A → Type 0) (o : Result A ChainFault) (x : A) → o ≡ Ok x → IfOk o P → P x
+ok_has P (Ok y) x is has = (let same : y ≡ x = cc in subst P same has)
+ok_has P (Err e) x is has = cc
+
+-- there is a place for what the chain that is taken adds, where there is one for the chain that waited first
+pub taken_place : (h : HostState) (q q' : Queue) (chain chain' : WalkedChain) (t : Taken) → chain.limit ≡ 64 → TakesFirst q chain t q' chain' → HasPlace q.waiting h → t.fault ≡ None
+    → IfOk (asked_by chain'.descs t.parcel.pages) (HasPlaceFor h)
+taken_place h q q' chain chain' t limit takes place none =
+    let here : HasPlace (t.parcel ∷ rest_of q.waiting) h = subst (λ (ps : List Parcel). HasPlace ps h) takes.first place in
+    ok_has (λ descs. IfOk (asked_by descs t.parcel.pages) (HasPlaceFor h)) (chain_in t.parcel) chain'.descs (walked q q' chain chain' t limit takes none) here
 
 -- the chain that is taken has the room of the one that waited first
 pub taken_room : (q q' : Queue) (chain chain' : WalkedChain) (t : Taken) → TakesFirst q chain t q' chain' → HasRoom q.waiting

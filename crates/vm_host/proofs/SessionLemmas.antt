@@ -75,6 +75,14 @@ found_within [] key id stands = cc
 found_within (k ∷ keys) key zero stands = omega arith
 found_within (k ∷ keys) key (suc id) stands = omega (arith, found_within keys key id stands)
 
+-- a session's id is its place
+pub numbered : (slab : Slab Session) (keys : List (Option ℕ)) (id : ℕ) (s : Session) → HasEachSession slab keys → get_or (sessions_at slab keys) id None ≡ Some s → s.id ≡ id
+numbered slab keys id s each live = by_key (get_or keys id None) refl (sym (get_or-map (session_at slab) keys id None) ∙ live)
+  where
+    by_key : (o : Option ℕ) → get_or keys id None ≡ o → session_at slab o ≡ Some s → s.id ≡ id
+    by_key None stands there = cc
+    by_key (Some key) stands there = subst (HasId id) there (leads_to slab keys key id each (found_within keys key id stands) stands)
+
 -- ---- opening
 
 -- the next session stands at the list's end, and each other where it stood

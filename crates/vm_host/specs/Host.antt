@@ -1,5 +1,5 @@
--- What the device answers to a command, and its sessions after it.
-use Rattle.std.specs.Prelude.{ℕ, ◌≡◌, ◌<◌, ◌≤◌, ◌+◌, ◌-◌, ◌^◌, Bool, true, false, Option, Some, None, Result, Ok, Err, List, [], ◌∷◌, ◌++◌, length, nat_lt, if◌then◌else◌, is_some, Contains, slice_index_or, slice_set}
+-- What the device answers to a command, and its sessions and region after it.
+use Rattle.std.specs.Prelude.{ℕ, ◌≡◌, ◌<◌, ◌≤◌, ◌+◌, ◌-◌, ◌^◌, ◌⊎◌, Bool, true, false, Option, Some, None, Result, Ok, Err, IfOk, List, [], ◌∷◌, ◌++◌, length, nat_lt, Contains, slice_index_or, slice_set}
 use Rattle.slab.specs.Slab.{Slab, Updates}
 use Rattle.v4l_const.specs.Errno.{errno_number}
 use Rattle.v4l_const.specs.declared.errno.Errno.{Errno}
@@ -25,14 +25,22 @@ use Rattle.vm_wire.specs.declared.command.Command.TheVariants.{OpenSession, Clos
 use Rattle.vm_wire.specs.declared.command.CmdFault.{CmdFault}
 use Rattle.vm_wire.specs.declared.command.CmdFault.TheVariants.{Short, UnknownCmd, UnknownIoctl, Room}
 use Rattle.vm_wire.specs.declared.response.Response.{Response}
-use Rattle.vm_wire.specs.declared.response.Response.TheVariants.{Refused, Opened, Closed, Answered}
+use Rattle.vm_wire.specs.declared.response.Response.TheVariants.{Refused, Opened, Closed, Answered, Mapped, Unmapped}
+use Rattle.vm_region.specs.Region.{RegionState, Maps, Unmaps, map_count, range_at, range_of}
+use Rattle.vm_region.specs.declared.live_range.LiveRange.{LiveRange}
 use Rattle.vm_session.specs.declared.session.Session.{Session}
 use Rattle.vm_session.specs.Session.{IoctlAnswer, opening_session, ioctl_outcome, queued_memories}
 use Rattle.vm_host.specs.Carrier.{readable_of, written}
+use Rattle.vm_host.specs.Mappings.{frame_in, pages_of}
 use Rattle.vm_host.specs.Sessions.{HostState}
 
 abbrev pub fresh_host : Model → ℕ → HostState
-fresh_host model opens = record { model = model; opens = opens; sessions = [] }
+fresh_host model opens = record {
+  model = model;
+  opens = opens;
+  sessions = [];
+  region = record { journal = []; ranges = [] };
+}
 
 -- a reply, the memories that go back with it, and the device after it
 pub record Answer : Type 0 where
@@ -55,6 +63,11 @@ with_session h = record h { sessions = h.sessions ++ Some (opening_session h.mod
 
 abbrev pub without_session : HostState → ℕ → HostState
 without_session h id = record h { sessions = slice_set h.sessions id None }
+
+-- The next session is opened. Whether there is memory for it is free.
+abbrev pub opened : Bool → HostState → Answer
+opened true h = reply_alone (Opened (length h.sessions)) (with_session h)
+opened false h = refused Enomem h
 
 -- the session of this id, while it is live
 abbrev pub session_of : HostState → ℕ → Option Session
@@ -95,14 +108,6 @@ MadeFew (Some s) = s.made < 2 ^ 32 - 32
 abbrev pub EachMadeFew : HostState → Type 0
 EachMadeFew h = (id : ℕ) → MadeFew (session_of h id)
 
-abbrev pub MostMade : ℕ → Option Session → Type 0
-MostMade n None = Unit {0}
-MostMade n (Some s) = s.made ≤ n
-
--- each live session made no more frames than this
-abbrev pub EachMadeMost : ℕ → HostState → Type 0
-EachMadeMost n h = (id : ℕ) → MostMade n (session_of h id)
-
 -- ---- calls
 
 -- the payload has its length
@@ -124,16 +129,52 @@ abbrev pub reply_to : Result (Unit {0}) Errno → List ℕ → Response
 reply_to (Ok done) payload = Answered payload
 reply_to (Err errno) payload = Refused (errno_number errno)
 
+-- ---- mappings
+
+abbrev pub with_region : HostState → RegionState → HostState
+with_region h region = record h { region = region }
+
+-- The frame of this tag and length is mapped: its range's address and its length are told. Whether there is memory is
+-- free.
+abbrev pub MapsFrame : HostState → ℕ → ℕ → Answer → Type 0
+MapsFrame h tag len a =
+    (a ≡ refused Enomem h)
+    ⊎ ((addr : ℕ) × (region : RegionState) × Maps (range_of tag h.region.ranges) h.region tag (pages_of len) addr region
+    × (a ≡ reply_alone (Mapped addr len) (with_region h region)))
+
+-- the same of a frame that is looked for
+abbrev pub MapsFound : HostState → Result (ℕ × ℕ) Errno → Answer → Type 0
+MapsFound h (Ok frame) a = MapsFrame h frame.0 frame.1 a
+MapsFound h (Err errno) a = a ≡ refused errno h
+
+-- a mapping of the live range that starts at an address is given back, if there is one
+abbrev pub UnmapsAt : HostState → ℕ → Option LiveRange → Answer → Type 0
+UnmapsAt h addr (Some r) a =
+    (region : RegionState) × Unmaps h.region addr r region × (a ≡ reply_alone Unmapped (with_region h region))
+UnmapsAt h addr None a = a ≡ refused Einval h
+
 -- ---- commands
 
--- What a command does. Whether memory came for a new session or for frames is free.
-abbrev pub performed : Bool → HostState → Command → Answer
-performed memory h OpenSession =
-    if memory then reply_alone (Opened (length h.sessions)) (with_session h) else refused Enomem h
-performed memory h (CloseSession id) = closed h id (session_of h id)
-performed memory h (Ioctl id code payload) = in_session memory h id (session_of h id) code payload
-performed memory h (Map id writable offset) = refused (if is_some (session_of h id) then Eopnotsupp else Ebadf) h
-performed memory h (Unmap addr) = refused Eopnotsupp h
+-- What a command may come to. Whether memory came for a new session or for frames is free.
+abbrev pub Performs : HostState → Command → Answer → Type 0
+Performs h OpenSession a = (memory : Bool) × (a ≡ opened memory h)
+Performs h (CloseSession id) a = a ≡ closed h id (session_of h id)
+Performs h (Ioctl id code payload) a =
+    (memory : Bool) × (a ≡ in_session memory h id (session_of h id) code payload)
+Performs h (Map id writable offset) a = MapsFound h (frame_in (session_of h id) offset) a
+Performs h (Unmap addr) a = UnmapsAt h addr (range_at addr h.region.ranges) a
+
+-- there is a place for what a command adds: a session, or a mapping in the journal
+abbrev pub HasPlaceFor : HostState → Command → Type 0
+HasPlaceFor h OpenSession = length h.sessions < h.opens
+HasPlaceFor h (Map id writable offset) = map_count h.region.journal < 16384
+HasPlaceFor h c = Unit {0}
+
+-- whether a command is one on mappings
+abbrev pub is_mapping : Command → Bool
+is_mapping (Map id writable offset) = true
+is_mapping (Unmap addr) = true
+is_mapping c = false
 
 -- the errno by which a malformed command is refused
 abbrev pub errno_of_fault : CmdFault → Errno
@@ -143,20 +184,14 @@ errno_of_fault UnknownIoctl = Enotty
 errno_of_fault Room = Emsgsize
 
 -- a malformed command changes nothing
-abbrev pub answer_to : Bool → HostState → Result Command CmdFault → Answer
-answer_to memory h (Ok c) = performed memory h c
-answer_to memory h (Err f) = refused (errno_of_fault f) h
+abbrev pub AnswersTo : HostState → Result Command CmdFault → Answer → Type 0
+AnswersTo h (Ok c) a = Performs h c a
+AnswersTo h (Err f) a = a ≡ refused (errno_of_fault f) h
 
--- The reply, the memories that go back and the device after are those of the answer, with memory or
--- without.
-abbrev pub IsGiven : (Bool → Answer) → Response → List Held → HostState → Type 0
-IsGiven answer response back host =
-    (memory : Bool) × (answer memory ≡ record { response = response; back = back; host = host })
-
--- the same where memories go behind what was held
-abbrev pub IsGivenWith : (Bool → Answer) → Response → List Held → List Held → HostState → Type 0
-IsGivenWith answer response held held' host =
-    (back : List Held) × (IsGiven answer response back host × (held' ≡ held ++ back))
+-- Such an answer is given: the reply, the device after it, and the memories that go back, behind what was held.
+abbrev pub IsGiven : (Answer → Type 0) → Response → List Held → List Held → HostState → Type 0
+IsGiven P response held held' host =
+    (back : List Held) × P (record { response = response; back = back; host = host }) × (held' ≡ held ++ back)
 
 -- ---- chains
 
@@ -195,9 +230,7 @@ asked_by descs pages = judged (readable_of descs pages) (writable_bytes descs)
 abbrev pub AnswersIf : Bool → List Desc → Parcel → HostState → Sent → HostState → Type 0
 AnswersIf true descs p h sent h' = (sent ≡ sent_empty p) × (h' ≡ h)
 AnswersIf false descs p h sent h' =
-    (response : Response) × (back : List Held)
-    × IsGiven (λ memory. answer_to memory h (asked_by descs p.pages)) response back h'
-    × (sent ≡ sent_with p descs response back)
+    (a : Answer) × AnswersTo h (asked_by descs p.pages) a × (sent ≡ sent_with p descs a.response a.back) × (h' ≡ a.host)
 
 -- A chain with a fault goes back empty too.
 abbrev pub Serves : Result (List Desc) ChainFault → Parcel → HostState → Sent → HostState → Type 0
@@ -223,10 +256,10 @@ Executes [] h q turn h' q' = (turn ≡ Idle) × (h' ≡ h) × (q' ≡ q)
 Executes (p ∷ ps) h q turn h' q' =
     (turn ≡ Did) × ((head : ℕ) × (sent : Sent) × (¬ Contains (heads_of q) head) × Serves (chain_in p) p h sent h' × (q' ≡ moved_on q ps (done_as head (length p.table) sent)))
 
--- the chain that waits first, if any, opens a session
-abbrev pub AsksToOpen : List Parcel → Type 0
-AsksToOpen [] = ⊥
-AsksToOpen (p ∷ ps) = (descs : List Desc) × (chain_in p ≡ Ok descs) × (asked_by descs p.pages ≡ Ok OpenSession)
+-- there is a place for what the chain that waits first, if any, adds
+abbrev pub HasPlace : List Parcel → HostState → Type 0
+HasPlace [] h = Unit {0}
+HasPlace (p ∷ ps) h = IfOk (chain_in p) (λ descs. IfOk (asked_by descs p.pages) (HasPlaceFor h))
 
 -- there is room for 64 memories behind those of the chain that waits first, if any
 abbrev pub HasRoom : List Parcel → Type 0

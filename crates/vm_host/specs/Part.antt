@@ -1,5 +1,5 @@
 -- The device's part of each step, over what is said on the link. Nothing here reads the driver's side.
-use Rattle.std.specs.Prelude.{ℕ, ◌≡◌, Bool, List, [], Result, Ok, Err, nat_lt, length, if◌then◌else◌}
+use Rattle.std.specs.Prelude.{ℕ, ◌≡◌, List, [], Result, Ok, Err, nat_lt, length, if◌then◌else◌}
 use Rattle.vm_chain.specs.Chain.{writable_bytes}
 use Rattle.vm_chain.specs.declared.desc.Desc.{Desc}
 use Rattle.vm_chain.specs.declared.fault.ChainFault.{ChainFault}
@@ -8,7 +8,7 @@ use Rattle.vm_wire.specs.Message.{Ask, Request, Reply}
 use Rattle.vm_wire.specs.Message.Ask.{Unusable, Judged}
 use Rattle.vm_wire.specs.Wire.{response_bytes}
 use Rattle.vm_host.specs.Sessions.{HostState}
-use Rattle.vm_host.specs.Host.{Answer, answer_to, chain_in, asked_by}
+use Rattle.vm_host.specs.Host.{Answer, AnswersTo, chain_in, asked_by}
 
 -- what a chain with these descriptors, or with a fault, asks
 abbrev pub ask_by : Result (List Desc) ChainFault → Parcel → Ask
@@ -27,16 +27,16 @@ pub record Finishing : Type 0 where
 abbrev pub finishing : ℕ → Answer → Finishing
 finishing who a = record { reply = record { who = who; bytes = response_bytes a.response }; host = a.host }
 
-abbrev pub executed_ask : Bool → HostState → ℕ → Ask → Finishing
-executed_ask memory h who Unusable = record { reply = record { who = who; bytes = [] }; host = h }
-executed_ask memory h who (Judged asked) = finishing who (answer_to memory h asked)
+abbrev pub ExecutedAsk : HostState → ℕ → Ask → Finishing → Type 0
+ExecutedAsk h who Unusable f = f ≡ record { reply = record { who = who; bytes = [] }; host = h }
+ExecutedAsk h who (Judged asked) f = (a : Answer) × AnswersTo h asked a × (f ≡ finishing who a)
 
--- what the device does with a request. Whether memory came is free.
-abbrev pub executed : Bool → HostState → Request → Finishing
-executed memory h r = executed_ask memory h r.who r.asks
+-- What the device may come to with a request, and finish for it.
+abbrev pub Executed : HostState → Request → Finishing → Type 0
+Executed h r f = ExecutedAsk h r.who r.asks f
 
--- What a parcel asks is done as the device's part of its step says, with memory or without: the device after is that part's,
--- and so many bytes were written as its reply has.
+-- What a parcel asks is done as the device's part of its step says: the device after is that part's, and so many bytes
+-- were written as its reply has.
 abbrev pub IsPart : HostState → Parcel → ℕ → HostState → Type 0
 IsPart h p used h' =
-    (memory : Bool) × (h' ≡ (executed memory h (request_of p)).host) × (used ≡ length (executed memory h (request_of p)).reply.bytes)
+    (f : Finishing) × Executed h (request_of p) f × (h' ≡ f.host) × (used ≡ length f.reply.bytes)

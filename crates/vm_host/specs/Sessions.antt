@@ -1,14 +1,17 @@
--- The device's sessions by their ids.
+-- What the device keeps: its sessions by their ids, and the region in which their frames are mapped.
 use Rattle.std.specs.Prelude.{ℕ, ◌≡◌, ◌<◌, ◌+◌, Option, Some, None, List, [], ◌∷◌, length, map, slice_index_or, IfSome}
 use Rattle.slab.specs.Slab.{Slab, get}
 use Rattle.v4l_const.specs.declared.model.Model.{Model}
+use Rattle.vm_region.specs.Region.{RegionState}
 use Rattle.vm_session.specs.declared.session.Session.{Session}
 
--- The device's model, how many sessions may be opened, and by id each session that was opened, until it is closed.
+-- The device's model, how many sessions may be opened, by id each session that was opened, until it is closed, and the
+-- region that is shared with the driver.
 pub record HostState : Type 0 where
   pub model : Model
   pub opens : ℕ
   pub sessions : List (Option Session)
+  pub region : RegionState
 
 -- what stands in the slab at a key, if there is one
 abbrev pub session_at : Slab Session → Option ℕ → Option Session

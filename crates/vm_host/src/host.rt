@@ -1,18 +1,18 @@
-ghost use Rattle.std.specs.Prelude.{◌≡◌, ◌≤◌, ◌<◌, ◌+◌, ◌*◌, IfOk, length, vec_capacity, Ok, None};
+ghost use Rattle.std.specs.Prelude.{◌≡◌, ◌≤◌, ◌+◌, ◌*◌, IfOk, length, vec_capacity, None};
 ghost use Rattle.vm_link.specs.Queue.{queue_at};
 ghost use Rattle.vm_link.specs.declared.link.QueueId.TheVariants.{Command as Commands, Event as Events};
-ghost use Rattle.vm_wire.specs.declared.command.Command.TheVariants.{OpenSession};
 ghost use Rattle.vm_host.specs.Carrier.{StayInPages, Fits, written};
-ghost use Rattle.vm_host.specs.Host.{fresh_host, asked_by, Served, Executes, AsksToOpen, HasRoom, EachMadeFew};
+ghost use Rattle.vm_host.specs.Host.{fresh_host, asked_by, Served, Executes, HasPlace, HasPlaceFor, HasRoom, EachMadeFew};
 
 use crate::carrier::{gather, spread};
-use crate::sessions::Sessions;
+use crate::device::Device;
 use std::alloc::Global;
 use std::marker::Model;
 use v4l_const::Model as DeviceModel;
 use vm_chain::{Chain, ChainFault, Desc};
 use vm_link::{Finished, Link, Parcel, QueueId, Taken, Turn};
 use vm_mem::{Memory, PAGE_SIZE};
+use vm_region::Region;
 use vm_wire::{WIRE_ROOM, decode_command, encode_response};
 
 /// How many descriptors of a chain are visited at most.
@@ -21,12 +21,12 @@ const CHAIN_LIMIT: u16 = 64;
 /// How many bytes a chain has to have room for before anything is written.
 const STATUS_LEN: u32 = 8;
 
-/// The device, with the sessions that guests opened.
+/// The device, with the sessions that guests opened and the region in which their frames are mapped.
 ///
 /// A session's id is the number of its open among those that succeeded, and is never used again.
 #[derive(Drop)]
 pub struct Host {
-    sessions: Sessions,
+    device: Device,
     // The chain that is served, and the bytes that it asks with; between calls they mean nothing.
     chain: Chain,
     bytes: Vec<u8>,
@@ -38,7 +38,7 @@ impl Model for Host {
 
     ghost Value = { HostState };
 
-    ghost view = { λ h. h.sessions };
+    ghost view = { λ h. h.device };
 
     // There is room for the bytes of as many pages as a chain has descriptors.
     ghost invariant = { λ h. (h.chain.limit ≡ 64) × (262144 ≤ vec_capacity h.bytes) };
@@ -54,14 +54,14 @@ fn write_reply(descs: &[Desc], parcel: &mut Parcel, reply: &[u8])
 
 // Does what a chain without a fault asks, and gives how many bytes of its reply were written. A chain with fewer than 8
 // bytes to write asks nothing.
-fn answer(sessions: &mut Sessions, chain: &Chain, bytes: &mut Vec<u8>, parcel: &mut Parcel) -> u32
+fn answer(device: &mut Device, chain: &Chain, bytes: &mut Vec<u8>, parcel: &mut Parcel) -> u32
     requires stay { StayInPages chain.now.descs }
     requires few { length chain.now.descs ≤ 64 }
     requires room { 262144 ≤ vec_capacity bytes.old }
-    requires opens { asked_by chain.now.descs parcel.old.pages ≡ Ok OpenSession → length sessions.old.sessions < sessions.old.opens }
-    requires frames { EachMadeFew sessions.old }
+    requires place { IfOk (asked_by chain.now.descs parcel.old.pages) (HasPlaceFor device.old) }
+    requires frames { EachMadeFew device.old }
     requires held { length parcel.old.held + 64 ≤ parcel.old.room }
-    ensures served { Served None chain.now.descs parcel.old sessions.old result parcel.new sessions.new }
+    ensures served { Served None chain.now.descs parcel.old device.old result parcel.new device.new }
     ensures room { vec_capacity bytes.old ≤ vec_capacity bytes.new }
 {
     let writable = chain.writable();
@@ -69,7 +69,7 @@ fn answer(sessions: &mut Sessions, chain: &Chain, bytes: &mut Vec<u8>, parcel: &
         return 0;
     }
     gather(chain.descs(), &parcel.pages, bytes);
-    let response = sessions.answer(decode_command(bytes, writable), &mut parcel.held);
+    let response = device.answer(decode_command(bytes, writable), &mut parcel.held);
     let mut reply = [0; WIRE_ROOM];
     let len = encode_response(&response, &mut reply);
     write_reply(chain.descs(), parcel, &reply[..len]);
@@ -78,7 +78,7 @@ fn answer(sessions: &mut Sessions, chain: &Chain, bytes: &mut Vec<u8>, parcel: &
 
 // Does what a chain asks, unless it has a fault.
 fn serve(
-    sessions: &mut Sessions,
+    device: &mut Device,
     chain: &Chain,
     fault: Option<ChainFault>,
     bytes: &mut Vec<u8>,
@@ -86,15 +86,15 @@ fn serve(
 ) -> u32
     requires fits { fault ≡ None → Fits 64 chain.now.descs }
     requires room { 262144 ≤ vec_capacity bytes.old }
-    requires opens { fault ≡ None → asked_by chain.now.descs parcel.old.pages ≡ Ok OpenSession → length sessions.old.sessions < sessions.old.opens }
-    requires frames { EachMadeFew sessions.old }
+    requires place { fault ≡ None → IfOk (asked_by chain.now.descs parcel.old.pages) (HasPlaceFor device.old) }
+    requires frames { EachMadeFew device.old }
     requires held { length parcel.old.held + 64 ≤ parcel.old.room }
-    ensures served { Served fault chain.now.descs parcel.old sessions.old result parcel.new sessions.new }
+    ensures served { Served fault chain.now.descs parcel.old device.old result parcel.new device.new }
     ensures room { vec_capacity bytes.old ≤ vec_capacity bytes.new }
 {
     match fault {
         Some(_) => 0,
-        None => answer(sessions, chain, bytes, parcel),
+        None => answer(device, chain, bytes, parcel),
     }
 }
 
@@ -106,11 +106,11 @@ impl Host {
     pub fn new(alloc: Global, model: DeviceModel, opens: u32) -> Result<Host, Memory>
         ensures { IfOk result (λ h. h ≡ fresh_host model opens) }
     {
-        let sessions = Sessions::new(alloc, model, opens)?;
+        let device = Device::new(alloc, model, opens)?;
         let chain = Chain::room(alloc, CHAIN_LIMIT)?;
         let bytes = Vec::with_capacity(alloc, usize::from(CHAIN_LIMIT) * PAGE_SIZE as usize)?;
         Ok(Host {
-            sessions,
+            device,
             chain,
             bytes,
         })
@@ -120,24 +120,33 @@ impl Host {
     pub fn opened(&self) -> u32
         ensures { result ≡ length self.now.sessions }
     {
-        self.sessions.opened()
+        self.device.opened()
+    }
+
+    /// The region that the device shares with the driver, with its journal.
+    pub fn region(&self) -> &Region
+        ensures { result.now ≡ self.now.region }
+    {
+        self.device.region()
     }
 
     /// Takes the chain that waits first, does the command that it brings, and sends the reply back. `Idle` exactly where
-    /// none waits. Where the command opens a session, fewer than `opens` sessions were opened before. Only an open and a
-    /// request for buffers take memory. The chain has room for 64 memories behind those that it holds, and each session
-    /// made fewer than 2^32 - 32 frames: the memories that a command takes out of a session's hands go along with the
-    /// reply. The queue of events stays as it was.
+    /// none waits. Where the command opens a session, fewer than `opens` sessions were opened before, and where it maps a
+    /// buffer, fewer than 16,384 mappings were made. Only an open, a request for buffers and a mapping take memory. The
+    /// chain has room for 64 memories behind those that it holds, and each session made fewer than 2^32 - 32 frames: the
+    /// memories that a command takes out of a session's hands go along with the reply. The queue of events stays as it
+    /// was.
     ///
     /// A chain with a fault, or with fewer than 8 bytes to write, goes back with nothing written. A malformed command is
     /// refused by its fault: EINVAL where it is short, EOPNOTSUPP where its number is unknown, ENOTTY where its code is,
-    /// EMSGSIZE where its reply has too little room. A command for a session that isn't live is refused with EBADF, a
-    /// mapping, which isn't there yet, with EOPNOTSUPP, and an open that finds no memory with ENOMEM. A refusal leaves the sessions as
-    /// they were.
+    /// EMSGSIZE where its reply has too little room. A command for a session that isn't live is refused with EBADF, and
+    /// one that finds no memory with ENOMEM. A mapping is refused with EINVAL where no frame of the session is mapped from
+    /// its offset, and the giving back of one where no live range starts at its address. A refusal leaves the device as it
+    /// was. No command but these two changes the region: what is mapped stays so when its session is closed.
     ///
     /// Source: own, after the sessions of the VIRTIO 1.4 draft's media device.
     pub fn execute<L: Link>(&mut self, link: &mut L) -> Turn
-        requires opens { AsksToOpen (queue_at Commands (L.queues link.old)).waiting → length self.old.sessions < self.old.opens }
+        requires place { HasPlace (queue_at Commands (L.queues link.old)).waiting self.old }
         requires room { HasRoom (queue_at Commands (L.queues link.old)).waiting }
         requires frames { EachMadeFew self.old }
         ensures executes { Executes (queue_at Commands (L.queues link.old)).waiting self.old (queue_at Commands (L.queues link.old)) result self.new (queue_at Commands (L.queues link.new)) }
@@ -152,7 +161,7 @@ impl Host {
             mut parcel,
         } = taken;
         let used = serve(
-            &mut self.sessions,
+            &mut self.device,
             &self.chain,
             fault,
             &mut self.bytes,

@@ -1,12 +1,13 @@
-// A law of the definitions.
+// Laws of the definitions.
 
-ghost use Rattle.std.specs.Prelude.{ℕ, ◌≡◌, ◌≤◌, List, length, map};
+ghost use Rattle.std.specs.Prelude.{ℕ, ◌≡◌, ◌≤◌, false, List, length, map};
 ghost use Rattle.vm_chain.specs.Chain.{writable_bytes};
 ghost use Rattle.vm_chain.specs.declared.desc.Desc.{Desc};
 ghost use Rattle.vm_mem.specs.declared.page.Page.{Page};
 ghost use Rattle.vm_link.specs.declared.parcel.Parcel.{Parcel};
 ghost use Rattle.vm_host.specs.Sessions.{HostState};
-ghost use Rattle.vm_host.specs.Host.{Sent, Serves, chain_in};
+ghost use Rattle.vm_wire.specs.declared.command.Command.{Command};
+ghost use Rattle.vm_host.specs.Host.{Answer, Performs, Sent, Serves, chain_in, is_mapping};
 ghost use Rattle.vm_host.specs.Part.{IsPart};
 ghost use Rattle.vm_host.specs.Carrier.{bytes_at, overlaid, written, writable_of, AreApart, AreThere, IsUnwritten};
 
@@ -25,4 +26,10 @@ pub fn replies_are_spread()
 #[tactic(auto, using(crate::proofs::PartLemmas::serves_part))]
 pub fn serving_is_the_part()
     ensures { (p : Parcel) (h next : HostState) (sent : Sent) → Serves (chain_in p) p h sent next → IsPart h p sent.used next }
+{}
+
+/// No command but the two on mappings changes the region. So what is mapped stays so when its session is closed.
+#[tactic(auto, using(crate::proofs::MappingLemmas::others_leave))]
+pub fn mappings_outlive_sessions()
+    ensures { (h : HostState) (c : Command) (a : Answer) → is_mapping c ≡ false → Performs h c a → a.host.region ≡ h.region }
 {}

@@ -1,5 +1,5 @@
 ghost use Rattle.std.specs.Option.{option_map};
-ghost use Rattle.std.specs.Prelude.{◌≡◌, ℕ, ◌+◌, ◌*◌, ◌^◌, ◌<◌, ◌≤◌, ◌↔◌, [], IfOk, OnOk, OnErr, IsErr, IfSome, None, IfErr};
+ghost use Rattle.std.specs.Prelude.{◌≡◌, ℕ, ◌+◌, ◌*◌, ◌^◌, ◌<◌, ◌≤◌, ◌↔◌, [], IfOk, OnOk, OnErr, IsErr, IfSome, None, Some, IfErr};
 ghost use Rattle.v4l_const.specs.declared.errno.Errno.TheVariants.{Einval};
 ghost use Rattle.vm_region.specs.Region.{IsSoundJournal, live_ranges, placed, placed_at, map_count, range_of, range_at, Maps, Unmaps, AreApart};
 
@@ -64,11 +64,12 @@ impl Region {
         Ok(addr)
     }
 
-    /// Gives a mapping of the range that starts at an address back. `EINVAL` is answered exactly where no live range starts
-    /// there, and then nothing changes.
+    /// Gives a mapping of the range that starts at an address back, which is the range of its tag. `EINVAL` is answered
+    /// exactly where no live range starts there, and then nothing changes.
     pub fn unmap(&mut self, addr: u64) -> Result<(), Errno>
         ensures refused { IsErr result ↔ (range_at addr self.old.ranges ≡ None) }
         ensures errno { IfErr result (λ e. e ≡ Einval) }
+        ensures own { IfSome (range_at addr self.old.ranges) (λ r. range_of r.tag self.old.ranges ≡ Some r) }
         ensures ok { OnOk result (IfSome (range_at addr self.old.ranges) (λ r. Unmaps self.old addr r self.new)) }
         ensures err { OnErr result (self.new ≡ self.old) }
     {

@@ -1,5 +1,5 @@
 -- Lemmas on the process's chain: what the device reads of a command that was posted, and what the driver reads of a reply.
-use Rattle.std.proofs.Common.{◌≡◌, ℕ, suc, ◌+◌, ◌*◌, ◌/◌, ◌%◌, ◌≤◌, lit<, List, [], ◌∷◌, ◌++◌, length, take, drop, Result, Ok, refl, sym, ap, ◌∙◌, subst, arith, nat_le, ◌==◌, Bool, true, false}
+use Rattle.std.proofs.Common.{◌≡◌, ℕ, suc, ◌+◌, ◌*◌, ◌/◌, ◌%◌, ◌≤◌, lit<, List, [], ◌∷◌, ◌++◌, length, take, drop, Result, Ok, refl, sym, ap, ◌∙◌, subst, arith, nat_le, ◌==◌, true, false}
 use Rattle.std.proofs.lemmas.Bool.Decides.{nat_tests}
 use Rattle.std.proofs.lemmas.Nat.{div-mul-add, mod-mul-add}
 use Rattle.std.proofs.lemmas.List.{append-nil, take_all}
@@ -18,9 +18,8 @@ use Rattle.vm_wire.proofs.WireLemmas.{command_again, command_fits, room_fits, re
 use Rattle.vm_wire.proofs.DecidedLemmas.{judged_only}
 use Rattle.vm_host.specs.Carrier.{readable_of, written}
 use Rattle.vm_host.specs.Sessions.{HostState}
-use Rattle.vm_host.specs.Host.{Sent, chain_in, asked_by, answer_to, performed, Serves, sent_with}
+use Rattle.vm_host.specs.Host.{Answer, AnswersTo, Performs, Sent, chain_in, asked_by, Serves, sent_with}
 use Rattle.vm_host.specs.Part.{ask_by, request_of}
-use Rattle.vm_frame.specs.declared.mem.Held.{Held}
 use Rattle.vm_guest.specs.Chain.{command_page, reply_page, chain_of, chain_table, chain_pages, IsChain, Carries, reply_of}
 
 pub take-front : {A : Type 0} (xs ys : List A) → take (length xs) (xs ++ ys) ≡ xs
@@ -120,11 +119,10 @@ request_posted p c parcel fits carries =
 
 -- The device did the command of a posted chain, and sent its response back in the chain.
 pub record IsPerformed (p : ℕ) (c : Command) (parcel : Parcel) (host : HostState) (sent : Sent) (host' : HostState) : Type 0 where
-  pub memory : Bool
-  pub response : Response
-  pub back : List Held
-  pub does : performed memory host c ≡ record { response = response; back = back; host = host' }
-  pub sent_is : sent ≡ sent_with parcel (chain_table p (length (command_bytes c))) response back
+  pub answer : Answer
+  pub does : Performs host c answer
+  pub sent_is : sent ≡ sent_with parcel (chain_table p (length (command_bytes c))) answer.response answer.back
+  pub leaves : host' ≡ answer.host
 
 pub served_posted : (p : ℕ) (c : Command) (parcel : Parcel) (host : HostState) (sent : Sent) (host' : HostState) → IsCommand c → Carries p c parcel
     → Serves (chain_in parcel) parcel host sent host' → IsPerformed p c parcel host sent host'
@@ -136,11 +134,10 @@ served_posted p c parcel host sent host' fits carries serves =
     (let Q : Result (List Desc) ChainFault → Type 0 = λ r. Serves r chain host sent host' in
     let done = subst Q (posted_walked p c carries.behind carries.reply carries.room fits) served in
     record {
-      memory = done.2.0;
-      response = done.0;
-      back = done.1;
-      does = ap (answer_to done.2.0 host) (sym (posted_command p c carries.behind carries.reply fits)) ∙ done.2.1;
-      sent_is = done.3;
+      answer = done.0;
+      does = subst (λ asked. AnswersTo host asked done.0) (posted_command p c carries.behind carries.reply fits) done.1;
+      sent_is = done.2;
+      leaves = done.3;
     }) in
     subst P (sym carries.is) there serves
 

@@ -30,7 +30,7 @@ use Rattle.vm_session.proofs.ReadBackLemmas.{enumfmt_reads, gfmt_reads, tryfmt_r
 use Rattle.vm_session.proofs.SizeLemmas.{answer_length}
 use Rattle.vm_wire.proofs.RecordLemmas.{fmt_desc_request_length, format_request_length, format_type_request_length, input_request_length}
 use Rattle.vm_host.specs.Sessions.{HostState}
-use Rattle.vm_host.specs.Host.{Answer, performed, called as served, with_session, without_session, session_of}
+use Rattle.vm_host.specs.Host.{Answer, Performs, opened as session_opened, closed as session_closed, called as served, in_session, with_session, without_session, session_of, is_mapping}
 use Rattle.vm_handle.specs.Exchange.{response_to, crossing}
 use Rattle.vm_handle.specs.declared.way.Way.TheVariants.{Crosses, AnsweredHere}
 use Rattle.vm_handle.specs.Handle.{HandleState, local_of, asks, IsAnswer, session_from, with_entry, with_reply}
@@ -159,7 +159,7 @@ kept_model : (host : HostState) (seats : List (List Seat)) (n h : ℕ) (handle :
 kept_model host seats n h handle here = local_model handle.model handle.entries here.legal ∙ sym here.model
 
 done_open : (host : HostState) (seats : List (List Seat)) (n h : ℕ) (handle : HandleState) (line : ℕ) (nonblock memory : Bool) → IsHere host seats n h handle → handle.session ≡ None
-    → IsDone host seats n h handle line (OpenHandle nonblock) OpenSession (performed memory host OpenSession)
+    → IsDone host seats n h handle line (OpenHandle nonblock) OpenSession (session_opened memory host)
 done_open host seats n h handle line nonblock true here vacant =
     let id : ℕ = length host.sessions in
     let t : LocalState = opened_anew (local_of handle) nonblock in
@@ -232,9 +232,9 @@ changed host seats n h id handle line call reply response slot t here has is kee
     let Q : Seat → Type 0 = λ s. session_count (seat_of handle) ≡ session_count s in
     (subst P (sym next) (agrees_changed host.sessions seats n h id slot t here.place some stands here.agrees), subst Q (sym next) (ap (λ o. if is_some o then 1 else 0) has))
 
-done_close : (host : HostState) (seats : List (List Seat)) (n h : ℕ) (handle : HandleState) (line : ℕ) (memory : Bool) (own : HasSession host handle) → IsHere host seats n h handle
-    → (local_of handle).opened ≡ true → IsDone host seats n h handle line CloseHandle (CloseSession own.id) (performed memory host (CloseSession own.id))
-done_close host seats n h handle line memory own here is_open =
+done_close : (host : HostState) (seats : List (List Seat)) (n h : ℕ) (handle : HandleState) (line : ℕ) (own : HasSession host handle) → IsHere host seats n h handle
+    → (local_of handle).opened ≡ true → IsDone host seats n h handle line CloseHandle (CloseSession own.id) (session_closed host own.id (session_of host own.id))
+done_close host seats n h handle line own here is_open =
     let t : LocalState = closed (local_of handle) in
     let is : IsCall (local_of handle) line CloseHandle Done t = closes (local_of handle) line is_open in
     let both = changed host seats n h own.id handle line CloseHandle Done Closed None t here own.has is refl refl in
@@ -248,7 +248,7 @@ done_close host seats n h handle line memory own here is_open =
       opens = refl;
       model = refl;
     } in
-    let live : performed memory host (CloseSession own.id) ≡ record { response = Closed; back = []; host = without_session host own.id } =
+    let live : session_closed host own.id (session_of host own.id) ≡ record { response = Closed; back = []; host = without_session host own.id } =
     rw own.live (ap (λ ms. record { response = Closed; back = ms; host = without_session host own.id }) (none_held own.session own.stands.fresh)) in
     subst (IsDone host seats n h handle line CloseHandle (CloseSession own.id)) (sym live) there
 
@@ -284,10 +284,10 @@ done_in host seats n h handle line call code payload own (Err e) here stays size
 done_ioctl : (host : HostState) (seats : List (List Seat)) (n h : ℕ) (handle : HandleState) (line : ℕ) (call : Call) (code : IoctlCode) (payload : List ℕ) (memory : Bool) (own : HasSession host handle)
     → IsHere host seats n h handle → StaysInSession call → HasItsLength code payload
     → AnswersAs own.id line (local_of handle) call (S.ioctl_outcome memory own.session code payload)
-    → IsDone host seats n h handle line call (Ioctl own.id code payload) (performed memory host (Ioctl own.id code payload))
+    → IsDone host seats n h handle line call (Ioctl own.id code payload) (in_session memory host own.id (session_of host own.id) code payload)
 done_ioctl host seats n h handle line call code payload memory own here stays sized answers =
     let there = done_in host seats n h handle line call code payload own (S.ioctl_outcome memory own.session code payload) here stays sized memory refl answers in
-    let live : performed memory host (Ioctl own.id code payload) ≡ served host own.id (S.ioctl_outcome memory own.session code payload) = rw own.live refl in
+    let live : in_session memory host own.id (session_of host own.id) code payload ≡ served host own.id (S.ioctl_outcome memory own.session code payload) = rw own.live refl in
     subst (IsDone host seats n h handle line call (Ioctl own.id code payload)) (sym live) there
 
 -- ---- each call that crosses
@@ -298,9 +298,12 @@ as_asked : (id line : ℕ) (s : LocalState) (call : Call) (session : Session) (m
 as_asked id line s call session memory code payload row is answers =
     let P : S.IoctlRow → Type 0 = λ r. AnswersAs id line s call (S.outcome_of memory r) in subst P (sym is) answers
 
--- What is done for the handle by the command by which its call crosses, and that the command fits its fields.
-abbrev pub IsServed : HostState → List (List Seat) → ℕ → ℕ → HandleState → ℕ → Call → Bool → Command → Type 0
-IsServed host seats n h handle line call memory c = IsCommand c × IsDone host seats n h handle line call c (performed memory host c)
+-- The command by which the handle's call crosses fits its fields, adds no mapping, and whatever it comes to is done for the
+-- handle.
+pub record IsServed (host : HostState) (seats : List (List Seat)) (n h : ℕ) (handle : HandleState) (line : ℕ) (call : Call) (c : Command) : Type 0 where
+  pub fits : IsCommand c
+  pub other : is_mapping c ≡ false
+  pub does : (a : Answer) → Performs host c a → IsDone host seats n h handle line call c a
 
 -- the command of a call that needs an open handle
 open_where : (b : Bool) (x c : Command) → crossing (if b then Crosses x else AnsweredHere) ≡ Some c → (b ≡ true) × (c ≡ x)
@@ -308,54 +311,62 @@ open_where true x c is = (refl, some_command x c is)
 open_where false x c is = cc
 
 -- the command is one in the handle's session
-in_own : (host : HostState) (seats : List (List Seat)) (n h : ℕ) (handle : HandleState) (line : ℕ) (call : Call) (code : IoctlCode) (payload : List ℕ) (memory : Bool) (c : Command)
+in_own : (host : HostState) (seats : List (List Seat)) (n h : ℕ) (handle : HandleState) (line : ℕ) (call : Call) (code : IoctlCode) (payload : List ℕ) (c : Command)
     → IsHere host seats n h handle → StaysInSession call → HasItsLength code payload
-    → ((id : ℕ) (session : Session) → Stands id (local_of handle) session → (local_of handle).opened ≡ true
+    → ((memory : Bool) (id : ℕ) (session : Session) → Stands id (local_of handle) session → (local_of handle).opened ≡ true
     → AnswersAs id line (local_of handle) call (S.ioctl_outcome memory session code payload))
     → crossing (if (local_of handle).opened then Crosses (Ioctl (unwrap_or handle.session 0) code payload) else AnsweredHere) ≡ Some c
-    → IsServed host seats n h handle line call memory c
-in_own host seats n h handle line call code payload memory c here stays sized answers crosses =
+    → IsServed host seats n h handle line call c
+in_own host seats n h handle line call code payload c here stays sized answers crosses =
     let opened = open_where (local_of handle).opened (Ioctl (unwrap_or handle.session 0) code payload) c crosses in
     let own = open_session host seats n h handle here opened.0 in
     let is : c ≡ Ioctl own.id code payload = opened.1 ∙ ap (λ o. Ioctl (unwrap_or o 0) code payload) own.has in
-    subst (IsServed host seats n h handle line call memory) (sym is) (
-      (omega (arith, own.below, here.small), sized),
-      done_ioctl host seats n h handle line call code payload memory own here stays sized (answers own.id own.session own.stands opened.0),
-    )
+    subst (IsServed host seats n h handle line call) (sym is) (record {
+      fits = (omega (arith, own.below, here.small), sized);
+      other = refl;
+      does = λ a comes. subst (IsDone host seats n h handle line call (Ioctl own.id code payload)) (sym comes.1)
+          (done_ioctl host seats n h handle line call code payload comes.0 own here stays sized (answers comes.0 own.id own.session own.stands opened.0));
+    })
 
 -- the command by which a call crosses is done for the call's handle
-pub done : (host : HostState) (seats : List (List Seat)) (n h : ℕ) (handle : HandleState) (line : ℕ) (call : Call) (c : Command) (memory : Bool) → IsBuilt call → IsHere host seats n h handle
+pub done : (host : HostState) (seats : List (List Seat)) (n h : ℕ) (handle : HandleState) (line : ℕ) (call : Call) (c : Command) → IsBuilt call → IsHere host seats n h handle
     → asks handle call ≡ Some c → ((nonblock : Bool) → call ≡ OpenHandle nonblock → handle.session ≡ None)
-    → IsServed host seats n h handle line call memory c
-done host seats n h handle line (OpenHandle nonblock) c memory built here crosses vacant =
-    subst (IsServed host seats n h handle line (OpenHandle nonblock) memory) (sym (some_command OpenSession c crosses))
-    (tt, done_open host seats n h handle line nonblock memory here (vacant nonblock refl))
-done host seats n h handle line CloseHandle c memory built here crosses vacant =
+    → IsServed host seats n h handle line call c
+done host seats n h handle line (OpenHandle nonblock) c built here crosses vacant =
+    subst (IsServed host seats n h handle line (OpenHandle nonblock)) (sym (some_command OpenSession c crosses)) (record {
+      fits = tt;
+      other = refl;
+      does = λ a comes. subst (IsDone host seats n h handle line (OpenHandle nonblock) OpenSession) (sym comes.1) (done_open host seats n h handle line nonblock comes.0 here (vacant nonblock refl));
+    })
+done host seats n h handle line CloseHandle c built here crosses vacant =
     let opened = open_where (local_of handle).opened (CloseSession (unwrap_or handle.session 0)) c crosses in
     let own = open_session host seats n h handle here opened.0 in
     let is : c ≡ CloseSession own.id = opened.1 ∙ ap (λ o. CloseSession (unwrap_or o 0)) own.has in
-    subst (IsServed host seats n h handle line CloseHandle memory) (sym is)
-    (omega (arith, own.below, here.small), done_close host seats n h handle line memory own here opened.0)
-done host seats n h handle line QueryCap c memory built here crosses vacant =
-    in_own host seats n h handle line QueryCap _ _ memory c here (λ session reply payload. refl) refl (λ id session stands is_open. querycap_answers id line (local_of handle) session memory stands is_open) crosses
-done host seats n h handle line (EnumFmt t i) c memory built here crosses vacant =
-    in_own host seats n h handle line (EnumFmt t i) Code.EnumFmt (fmtdesc_bytes (fmt_desc_request t i)) memory c here (λ session reply payload. refl) (fmt_desc_request_length t i)
-    (λ id session stands is_open. as_asked id line (local_of handle) (EnumFmt t i) session memory Code.EnumFmt (fmtdesc_bytes (fmt_desc_request t i)) _ (enumfmt_reads session t i built.0 built.1) (enumfmt_answers id line (local_of handle) session memory t i stands is_open)) crosses
-done host seats n h handle line (GFmt t) c memory built here crosses vacant =
-    in_own host seats n h handle line (GFmt t) Code.GFmt (format_bytes (format_type_request t)) memory c here (λ session reply payload. refl) (format_type_request_length t)
-    (λ id session stands is_open. as_asked id line (local_of handle) (GFmt t) session memory Code.GFmt (format_bytes (format_type_request t)) _ (gfmt_reads session t built) (gfmt_answers id line (local_of handle) session memory t stands is_open)) crosses
-done host seats n h handle line (TryFmt t f w x) c memory built here crosses vacant =
-    in_own host seats n h handle line (TryFmt t f w x) Code.TryFmt (format_bytes (format_request t f w x)) memory c here (λ session reply payload. refl) (format_request_length t f w x)
-    (λ id session stands is_open. as_asked id line (local_of handle) (TryFmt t f w x) session memory Code.TryFmt (format_bytes (format_request t f w x)) _ (tryfmt_reads session t f w x built.0 built.1 built.2 built.3) (tryfmt_answers id line (local_of handle) session memory t f w x stands is_open)) crosses
-done host seats n h handle line (SFmt t f w x) c memory built here crosses vacant =
-    in_own host seats n h handle line (SFmt t f w x) Code.SFmt (format_bytes (format_request t f w x)) memory c here (λ session reply payload. refl) (format_request_length t f w x)
-    (λ id session stands is_open. as_asked id line (local_of handle) (SFmt t f w x) session memory Code.SFmt (format_bytes (format_request t f w x)) _ (sfmt_reads session t f w x built.0 built.1 built.2 built.3) (sfmt_answers id line (local_of handle) session memory t f w x stands is_open)) crosses
-done host seats n h handle line (EnumInput i) c memory built here crosses vacant =
-    in_own host seats n h handle line (EnumInput i) Code.EnumInput (input_bytes (input_request i)) memory c here (λ session reply payload. refl) (input_request_length i)
-    (λ id session stands is_open. as_asked id line (local_of handle) (EnumInput i) session memory Code.EnumInput (input_bytes (input_request i)) _ (enuminput_reads session i built) (enuminput_answers id line (local_of handle) session memory i stands is_open)) crosses
-done host seats n h handle line GInput c memory built here crosses vacant =
-    in_own host seats n h handle line GInput _ _ memory c here (λ session reply payload. refl) refl (λ id session stands is_open. ginput_answers id line (local_of handle) session memory stands is_open) crosses
-done host seats n h handle line (SInput i) c memory built here crosses vacant =
-    in_own host seats n h handle line (SInput i) Code.SInput (le i) memory c here (λ session reply payload. refl) refl
-    (λ id session stands is_open. as_asked id line (local_of handle) (SInput i) session memory Code.SInput (le i) _ (sinput_reads session i built) (sinput_answers id line (local_of handle) session memory i stands is_open)) crosses
-done host seats n h handle line call c memory built here crosses vacant = absurd built
+    subst (IsServed host seats n h handle line CloseHandle) (sym is) (record {
+      fits = omega (arith, own.below, here.small);
+      other = refl;
+      does = λ a comes. subst (IsDone host seats n h handle line CloseHandle (CloseSession own.id)) (sym comes) (done_close host seats n h handle line own here opened.0);
+    })
+done host seats n h handle line QueryCap c built here crosses vacant =
+    in_own host seats n h handle line QueryCap _ _ c here (λ session reply payload. refl) refl (λ memory id session stands is_open. querycap_answers id line (local_of handle) session memory stands is_open) crosses
+done host seats n h handle line (EnumFmt t i) c built here crosses vacant =
+    in_own host seats n h handle line (EnumFmt t i) Code.EnumFmt (fmtdesc_bytes (fmt_desc_request t i)) c here (λ session reply payload. refl) (fmt_desc_request_length t i)
+    (λ memory id session stands is_open. as_asked id line (local_of handle) (EnumFmt t i) session memory Code.EnumFmt (fmtdesc_bytes (fmt_desc_request t i)) _ (enumfmt_reads session t i built.0 built.1) (enumfmt_answers id line (local_of handle) session memory t i stands is_open)) crosses
+done host seats n h handle line (GFmt t) c built here crosses vacant =
+    in_own host seats n h handle line (GFmt t) Code.GFmt (format_bytes (format_type_request t)) c here (λ session reply payload. refl) (format_type_request_length t)
+    (λ memory id session stands is_open. as_asked id line (local_of handle) (GFmt t) session memory Code.GFmt (format_bytes (format_type_request t)) _ (gfmt_reads session t built) (gfmt_answers id line (local_of handle) session memory t stands is_open)) crosses
+done host seats n h handle line (TryFmt t f w x) c built here crosses vacant =
+    in_own host seats n h handle line (TryFmt t f w x) Code.TryFmt (format_bytes (format_request t f w x)) c here (λ session reply payload. refl) (format_request_length t f w x)
+    (λ memory id session stands is_open. as_asked id line (local_of handle) (TryFmt t f w x) session memory Code.TryFmt (format_bytes (format_request t f w x)) _ (tryfmt_reads session t f w x built.0 built.1 built.2 built.3) (tryfmt_answers id line (local_of handle) session memory t f w x stands is_open)) crosses
+done host seats n h handle line (SFmt t f w x) c built here crosses vacant =
+    in_own host seats n h handle line (SFmt t f w x) Code.SFmt (format_bytes (format_request t f w x)) c here (λ session reply payload. refl) (format_request_length t f w x)
+    (λ memory id session stands is_open. as_asked id line (local_of handle) (SFmt t f w x) session memory Code.SFmt (format_bytes (format_request t f w x)) _ (sfmt_reads session t f w x built.0 built.1 built.2 built.3) (sfmt_answers id line (local_of handle) session memory t f w x stands is_open)) crosses
+done host seats n h handle line (EnumInput i) c built here crosses vacant =
+    in_own host seats n h handle line (EnumInput i) Code.EnumInput (input_bytes (input_request i)) c here (λ session reply payload. refl) (input_request_length i)
+    (λ memory id session stands is_open. as_asked id line (local_of handle) (EnumInput i) session memory Code.EnumInput (input_bytes (input_request i)) _ (enuminput_reads session i built) (enuminput_answers id line (local_of handle) session memory i stands is_open)) crosses
+done host seats n h handle line GInput c built here crosses vacant =
+    in_own host seats n h handle line GInput _ _ c here (λ session reply payload. refl) refl (λ memory id session stands is_open. ginput_answers id line (local_of handle) session memory stands is_open) crosses
+done host seats n h handle line (SInput i) c built here crosses vacant =
+    in_own host seats n h handle line (SInput i) Code.SInput (le i) c here (λ session reply payload. refl) refl
+    (λ memory id session stands is_open. as_asked id line (local_of handle) (SInput i) session memory Code.SInput (le i) _ (sinput_reads session i built) (sinput_answers id line (local_of handle) session memory i stands is_open)) crosses
+done host seats n h handle line call c built here crosses vacant = absurd built

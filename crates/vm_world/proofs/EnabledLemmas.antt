@@ -1,19 +1,18 @@
 -- Lemmas on the steps that may come next.
-use Rattle.std.proofs.Common.{◌≡◌, ℕ, zero, suc, ◌+◌, ◌-◌, ◌<◌, ◌≤◌, ◌==◌, ◌&&◌, Bool, true, false, List, [], ◌∷◌, ◌++◌, Option, Some, None, is_some, length, drop, get_or, slice_get, refl, sym, ap, ◌∙◌, subst, arith, nat_lt, eq-eqb, if◌then◌else◌}
-use Rattle.std.specs.Prelude.{sum_by, All, IsTrue, IfSome, ◌↔◌}
+use Rattle.std.proofs.Common.{◌≡◌, ℕ, zero, suc, ◌+◌, ◌-◌, ◌<◌, ◌≤◌, ◌==◌, ◌&&◌, Bool, true, false, List, [], ◌∷◌, ◌++◌, Option, Some, None, is_some, length, drop, slice_get, refl, sym, ap, ◌∙◌, subst, arith, nat_lt, eq-eqb, if◌then◌else◌}
+use Rattle.std.specs.Prelude.{sum_by, IsTrue, IfSome, ◌↔◌}
 use Rattle.std.proofs.Math.Seq.{drop-length}
 use Rattle.std.proofs.lemmas.Bool.{lt-ltb, ltb-false}
 use Rattle.std.proofs.lemmas.List.{drop_more, length-append, length-map}
 use Rattle.std.proofs.lemmas.List.Elements.{All-from_get_or}
 use Rattle.std.proofs.lemmas.List.Sums.{sum_by-cons}
 use Rattle.v4l_const.specs.declared.model.Model.{Model}
-use Rattle.vm_wire.specs.Message.{Request, Reply}
 use Rattle.vm_script.specs.Script.{ProcessLines, ScriptLines}
 use Rattle.vm_guest.specs.declared.status.Status.{Status}
 use Rattle.vm_guest.specs.declared.status.Status.TheVariants.{AtRest, Crossing}
 use Rattle.vm_guest.specs.Asking.{statement_of}
-use Rattle.vm_guest.specs.Process.{ProcessState, is_at_rest, begun, current, next, is_done, can_issue}
-use Rattle.vm_guest.specs.Guest.{GuestState, no_process, process_in, process_at, lines_at}
+use Rattle.vm_guest.specs.Process.{ProcessState, is_at_rest, begun, is_done, can_issue}
+use Rattle.vm_guest.specs.Guest.{no_process, process_in, process_at, lines_at}
 use Rattle.vm_guest.specs.Orderly.{IsOrderly}
 use Rattle.vm_guest.proofs.OrderlyLemmas.{begun_at_rest}
 use Rattle.vm_world.proofs.TurnLemmas.{current_some, next_current}

@@ -1,5 +1,5 @@
 -- Lemmas on logs: a step at most appends to one.
-use Rattle.std.proofs.Common.{◌≡◌, ℕ, ◌<◌, ◌≤◌, List, [], ◌∷◌, ◌++◌, Option, Some, None, length, set, refl, sym, ap, ◌∙◌, subst, arith, inl, inr}
+use Rattle.std.proofs.Common.{◌≡◌, ℕ, List, [], ◌∷◌, ◌++◌, Option, Some, None, length, refl, sym, ap, ◌∙◌, subst, inl, inr}
 use Rattle.std.proofs.lemmas.Bool.{cases_eq, cases_lt}
 use Rattle.std.proofs.lemmas.List.{append-nil, set_past, get_or-set_same, get_or-set_other}
 use Rattle.vm_local.specs.declared.entry.Entry.{Entry}
@@ -8,7 +8,7 @@ use Rattle.vm_wire.specs.Message.{Request, Reply}
 use Rattle.vm_wire.specs.declared.command.Command.{Command}
 use Rattle.vm_handle.specs.Handle.{HandleState}
 use Rattle.vm_guest.specs.declared.asked.Asked.{Asked}
-use Rattle.vm_guest.specs.Process.{ProcessState, no_handle, handle_in, handle_at, crosses_by, with_handle, sent, answered_here, replied}
+use Rattle.vm_guest.specs.Process.{ProcessState, no_handle, handle_in, handle_at, crosses_by, with_handle, sent, answered_here}
 use Rattle.vm_guest.specs.Guest.{GuestState, no_process, process_at, with_process, Posting, issued, Collected}
 use Rattle.vm_guest.proofs.GuestLemmas.{begun_as}
 use Rattle.vm_world.specs.World.{WorldState, Executes, Collects, Steps, log_of}
@@ -108,7 +108,7 @@ logs_grow w w' Execute does n h = by_requests w.requests does
     by_requests [] does = absurd does
     by_requests (r ∷ rs) does =
         let P : WorldState → Type 0 = λ x. Grows (handle_at (process_at w.guest n) h) (handle_at (process_at x.guest n) h) in
-        subst P (sym does.1) (grows_not (handle_at (process_at w.guest n) h))
+        subst P (sym does.2) (grows_not (handle_at (process_at w.guest n) h))
 logs_grow w w' Collect does n h = by_replies w.replies does
   where
     by_replies : (qs : List Reply) → Collects w qs w' → Grows (handle_at (process_at w.guest n) h) (handle_at (process_at w'.guest n) h)

@@ -1,5 +1,5 @@
 -- Laws of the steps over plain data: each keeps a sound world sound, and leaves fewer steps.
-use Rattle.std.proofs.Common.{◌≡◌, ℕ, zero, suc, ◌+◌, ◌<◌, ◌*◌, ◌≤◌, Bool, true, false, List, [], ◌∷◌, ◌++◌, Option, Some, None, Ok, Err, is_some, length, sum_by, refl, sym, ap, ◌∙◌, subst, arith, if◌then◌else◌}
+use Rattle.std.proofs.Common.{◌≡◌, ℕ, zero, suc, ◌+◌, ◌<◌, ◌*◌, ◌≤◌, Bool, true, false, List, [], ◌∷◌, Option, Some, None, Ok, Err, is_some, length, sum_by, refl, sym, ap, ◌∙◌, subst, arith, if◌then◌else◌}
 use Rattle.std.specs.Prelude.{Contains}
 use Rattle.std.proofs.lemmas.List.{length-append, length-map}
 use Rattle.std.proofs.lemmas.List.Elements.{Contains-append_left, Contains-append_right}
@@ -10,17 +10,16 @@ use Rattle.vm_wire.specs.Message.Ask.{Unusable, Judged}
 use Rattle.vm_wire.specs.declared.command.Command.{Command}
 use Rattle.vm_wire.specs.declared.command.Command.TheVariants.{OpenSession, CloseSession, Ioctl, Map, Unmap}
 use Rattle.v4l_const.specs.declared.ioctl_code.IoctlCode.TheVariants.{QBuf}
-use Rattle.vm_host.specs.Part.{executed}
 use Rattle.vm_script.specs.Script.{ProcessLines, ScriptLines}
 use Rattle.v4l_const.specs.declared.model.Model.{Model}
 use Rattle.vm_host.specs.Host.{fresh_host}
 use Rattle.vm_guest.specs.declared.asked.Asked.{Asked}
 use Rattle.vm_guest.specs.Asking.{statement_of}
 use Rattle.vm_guest.specs.Process.{ProcessState, begun, next, can_issue, crosses_by, IsFresh}
-use Rattle.vm_guest.specs.Guest.{GuestState, no_process, no_lines, process_in, process_at, with_process, IsReadScript, lines_at, IsDriver, Posting, begins_asked, issued, Collected}
+use Rattle.vm_guest.specs.Guest.{GuestState, no_process, no_lines, process_in, process_at, IsReadScript, lines_at, IsDriver, Posting, begins_asked, issued, Collected}
 use Rattle.vm_guest.proofs.OrderlyLemmas.{begun_at_rest, orderly_sent, orderly_answered}
-use Rattle.vm_guest.proofs.GuestLemmas.{fresh_driver, IsKept, begun_as, driver_with, kept_answered}
-use Rattle.vm_world.specs.World.{WorldState, Executes, Collects, Steps, Leads, issues_from, listed, enabled, is_enabled, is_some_of, after_finishing, request_weight, unbegun, left_of, handle_count, statement_count, IsOpening}
+use Rattle.vm_guest.proofs.GuestLemmas.{fresh_driver, begun_as, driver_with, kept_answered}
+use Rattle.vm_world.specs.World.{WorldState, Executes, Collects, Steps, Leads, issues_from, listed, enabled, is_enabled, is_some_of, request_weight, unbegun, left_of, handle_count, statement_count, IsOpening}
 use Rattle.vm_world.specs.declared.step.Step.{Step}
 use Rattle.vm_world.specs.declared.step.Step.TheVariants.{Issue, Execute, Collect}
 use Rattle.vm_world.specs.Sound.{IsSoundOf, IsSound}
@@ -61,7 +60,7 @@ step_sound script w w' Execute sound does = by_requests w.requests refl does
   where
     by_requests : (rs : List Request) → w.requests ≡ rs → Executes w rs w' → IsSoundOf script w'
     by_requests [] is does = absurd does
-    by_requests (r ∷ rs) is does = subst (IsSoundOf script) (sym does.1) (sound_finishing script w r rs does.0 sound is)
+    by_requests (r ∷ rs) is does = subst (IsSoundOf script) (sym does.2) (sound_finishing script w r rs does.0 sound is does.1)
 step_sound script w w' Collect sound does = by_replies w.replies refl does
   where
     by_replies : (qs : List Reply) → w.replies ≡ qs → Collects w qs w' → IsSoundOf script w'
@@ -101,7 +100,7 @@ step_script w w' Execute does = by_requests w.requests does
   where
     by_requests : (rs : List Request) → Executes w rs w' → w'.script ≡ w.script
     by_requests [] does = absurd does
-    by_requests (r ∷ rs) does = ap (λ (x : WorldState). x.script) does.1
+    by_requests (r ∷ rs) does = ap (λ (x : WorldState). x.script) does.2
 step_script w w' Collect does = by_replies w.replies does
   where
     by_replies : (qs : List Reply) → Collects w qs w' → w'.script ≡ w.script
@@ -129,10 +128,10 @@ falls_execute w w' does = by_requests w.requests refl does
     by_requests : (rs : List Request) → w.requests ≡ rs → Executes w rs w' → left_of w' < left_of w
     by_requests [] is does = absurd does
     by_requests (r ∷ rs) is does =
-        let f = executed does.0 w.host r in
+        let f = does.0 in
         let was : sum_by (λ (r : Request). request_weight r.asks) w.requests ≡ request_weight r.asks + sum_by (λ (r : Request). request_weight r.asks) rs =
         ap (λ qs. sum_by (λ (r : Request). request_weight r.asks) qs) is ∙ sum_by-cons (λ (r : Request). request_weight r.asks) r rs in
-        subst (λ x. left_of x < left_of w) (sym does.1)
+        subst (λ x. left_of x < left_of w) (sym does.2)
         (omega (arith, was, ask_weight r.asks, length-append w.replies (f.reply ∷ [])))
 
 pub step_falls : (script : ScriptLines) (w w' : WorldState) (s : Step) → IsSoundOf script w → Steps w s w' → left_of w' < left_of w

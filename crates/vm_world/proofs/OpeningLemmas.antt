@@ -1,5 +1,5 @@
 -- Lemmas on the world before the first line of a script.
-use Rattle.std.proofs.Common.{◌≡◌, ℕ, zero, suc, ◌+◌, ◌*◌, ◌<◌, ◌≤◌, ◌^◌, true, false, List, [], ◌∷◌, ◌++◌, Option, Some, None, Ok, length, map, take, get_or, refl, sym, ap, ◌∙◌, subst, arith, inl, inr, if◌then◌else◌, is_some}
+use Rattle.std.proofs.Common.{◌≡◌, ℕ, zero, suc, ◌+◌, ◌*◌, ◌<◌, ◌≤◌, false, List, [], ◌∷◌, ◌++◌, Option, Some, None, Ok, length, map, take, get_or, refl, sym, ap, ◌∙◌, subst, arith, inl, inr, if◌then◌else◌, is_some}
 use Rattle.std.specs.Prelude.{sum_by, All}
 use Rattle.std.proofs.lemmas.Bool.{cases_lt}
 use Rattle.std.proofs.lemmas.List.{take_more, length-map, get_or-map, get_or_past}
@@ -19,12 +19,11 @@ use Rattle.vm_script.specs.Script.{ProcessLines, ScriptLines}
 use Rattle.vm_script.specs.declared.line.Line.{Line}
 use Rattle.vm_script.specs.declared.line.LineKind.{LineKind}
 use Rattle.vm_script.specs.declared.line.LineKind.TheVariants.{OnHandle, Raw}
-use Rattle.vm_local.specs.declared.call.Call.{Call}
 use Rattle.vm_local.specs.declared.call.Call.TheVariants.{OpenHandle}
 use Rattle.vm_guest.specs.declared.asked.Asked.{Asked}
 use Rattle.vm_guest.specs.Chain.{reply_of}
-use Rattle.vm_guest.specs.Process.{ProcessState, crossing, is_at_rest, no_handle, handle_at, handle_in, fresh_at, IsFresh}
-use Rattle.vm_guest.specs.Guest.{GuestState, no_process, process_in, process_at, no_lines, lines_at, process_limit, IsReadScript, IsDriver, IsFreshGuest}
+use Rattle.vm_guest.specs.Process.{ProcessState, crossing, is_at_rest, no_handle, handle_at, IsFresh}
+use Rattle.vm_guest.specs.Guest.{GuestState, no_process, process_at, no_lines, lines_at, process_limit, IsReadScript, IsDriver, IsFreshGuest}
 use Rattle.vm_guest.proofs.OrderlyLemmas.{crossing_at_rest}
 use Rattle.vm_world.specs.World.{WorldState, handle_count}
 use Rattle.vm_world.specs.Carried.{command_room, IsEmpty, world_of, CarriesCommand, IsBack, IsCarried}

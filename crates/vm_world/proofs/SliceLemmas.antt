@@ -1,31 +1,27 @@
 -- Lemmas on the slices of a process's handles: each step keeps them sound.
-use Rattle.std.proofs.Common.{◌≡◌, ◌≢◌, ℕ, ◌+◌, ◌<◌, ◌⊎◌, Bool, true, false, ◌==◌, List, [], ◌∷◌, ◌++◌, Option, Some, None, Ok, unwrap_or, length, get_or, set, refl, sym, ap, ◌∙◌, subst, arith, inl, inr, eq-eqb, if◌then◌else◌}
+use Rattle.std.proofs.Common.{◌≡◌, ◌≢◌, ℕ, ◌<◌, ◌⊎◌, List, [], ◌∷◌, Option, Some, None, Ok, unwrap_or, length, get_or, set, refl, sym, ap, ◌∙◌, subst, arith, inl, inr, eq-eqb, if◌then◌else◌}
 use Rattle.std.proofs.lemmas.Bool.{cases_eq, ne_eqb}
 use Rattle.std.proofs.lemmas.List.{length-set, get_or-set_same, get_or-set_other}
 use Rattle.v4l_const.specs.declared.errno.Errno.TheVariants.{Ebadf}
-use Rattle.v4l_const.specs.declared.model.Model.{Model}
-use Rattle.vm_local.specs.declared.call.Call.{Call}
 use Rattle.vm_local.specs.declared.entry.Entry.TheVariants.{Called}
 use Rattle.vm_local.specs.declared.reply.Reply.{Reply as LocalReply}
 use Rattle.vm_local.specs.declared.reply.Reply.TheVariants.{Refused}
-use Rattle.vm_local.specs.State.{LocalState, opening}
+use Rattle.vm_local.specs.State.{opening}
 use Rattle.vm_local.specs.Log.{IsLegal}
-use Rattle.vm_wire.specs.Message.{Ask, Request, Reply}
+use Rattle.vm_wire.specs.Message.{Request, Reply}
 use Rattle.vm_wire.specs.Message.Ask.{Judged}
-use Rattle.vm_wire.specs.Wire.{response_bytes, response_of, Answers as MayReply}
+use Rattle.vm_wire.specs.Wire.{response_bytes, Answers as MayReply}
 use Rattle.vm_wire.specs.declared.command.Command.{Command}
 use Rattle.vm_wire.specs.declared.response.Response.{Response}
-use Rattle.vm_handle.specs.Exchange.{way_of, answer_here}
-use Rattle.vm_handle.specs.Handle.{HandleState, local_of, way_from, asks, IsAnswer, with_line, with_sent, with_entry, with_reply}
+use Rattle.vm_handle.specs.Handle.{HandleState, local_of, way_from, IsAnswer, with_line, with_sent, with_entry, with_reply}
 use Rattle.vm_handle.specs.declared.sent.Sent.{Sent}
 use Rattle.vm_handle.specs.declared.way.Way.TheVariants.{AnsweredHere}
 use Rattle.vm_handle.proofs.LogLemmas.{pushed, closed_refuses}
-use Rattle.vm_script.specs.Reading.{IsBuilt}
 use Rattle.vm_guest.specs.declared.asked.Asked.{Asked}
-use Rattle.vm_guest.specs.Process.{ProcessState, current, next, crossing, no_handle, handle_in, handle_at, way_by, crosses_by, with_handle, with_answer, sent, answered_here, replied}
-use Rattle.vm_guest.proofs.OrderlyLemmas.{next_is, crossing_is, crossing_at_rest}
+use Rattle.vm_guest.specs.Process.{ProcessState, next, crossing, no_handle, handle_in, handle_at, way_by, crosses_by, with_handle, with_answer, sent, answered_here, replied}
+use Rattle.vm_guest.proofs.OrderlyLemmas.{next_is, crossing_at_rest}
 use Rattle.vm_world.specs.Sound.{Seat, no_seat, seat_of, Stage, IsOut, IsAsking, IsTold, Ahead, stage_from, stage_on, IsOffTheLink, IsResting, IsSoundProcess}
-use Rattle.vm_world.specs.Sound.Stage.{Resting, Asking, Told}
+use Rattle.vm_world.specs.Sound.Stage.{Resting}
 
 -- ---- a handle in its place, and the others
 

@@ -1,6 +1,6 @@
 -- Lemmas on the world's steps over the link: what its parcels say, and that each step is the world's.
-use Rattle.std.proofs.Common.{◌≡◌, ◌≢◌, ℕ, zero, suc, ◌+◌, ◌-◌, ◌*◌, ◌<◌, ◌≤◌, Bool, true, false, List, [], ◌∷◌, ◌++◌, Option, Some, None, Result, Ok, Err, All, length, map, get_or, set, refl, sym, ap, ◌∙◌, subst, arith, nat_lt, if◌then◌else◌, ◌⊎◌, inl, inr}
-use Rattle.std.specs.Prelude.{sum_by}
+use Rattle.std.proofs.Common.{◌≡◌, ℕ, zero, suc, ◌+◌, ◌*◌, ◌<◌, ◌≤◌, Bool, true, false, List, [], ◌∷◌, ◌++◌, Option, Some, None, Result, Ok, Err, All, length, map, get_or, set, refl, sym, ap, ◌∙◌, subst, arith, nat_lt, if◌then◌else◌, ◌⊎◌, inl, inr}
+use Rattle.std.specs.Prelude.{IfOk, sum_by}
 use Rattle.std.proofs.lemmas.List.{append-nil, map_push, length-map}
 use Rattle.std.proofs.lemmas.List.Elements.{All-push, All-tail}
 use Rattle.std.proofs.lemmas.List.Sums.{sum_by-cons}
@@ -13,37 +13,33 @@ use Rattle.vm_link.specs.declared.chains.DoneChain.{DoneChain}
 use Rattle.vm_link.specs.declared.chains.OutChain.{OutChain}
 use Rattle.vm_link.specs.declared.link.Turn.{Turn}
 use Rattle.vm_link.specs.declared.link.Turn.TheVariants.{Did, Idle}
-use Rattle.vm_link.specs.declared.parcel.Finished.{Finished}
 use Rattle.vm_link.specs.declared.parcel.Parcel.{Parcel}
-use Rattle.vm_wire.specs.Message.{Ask, Request, Reply}
+use Rattle.vm_wire.specs.Message.{Request, Reply}
 use Rattle.vm_wire.specs.Message.Ask.{Unusable, Judged}
-use Rattle.vm_wire.specs.Wire.{IsCommand, command_bytes, response_bytes, Answers as MayReply}
+use Rattle.vm_wire.specs.Wire.{IsCommand, command_bytes}
 use Rattle.vm_wire.specs.declared.command.Command.{Command}
-use Rattle.vm_wire.specs.declared.command.Command.TheVariants.{OpenSession}
 use Rattle.vm_wire.specs.declared.command.CmdFault.{CmdFault}
 use Rattle.vm_host.specs.Sessions.{HostState}
-use Rattle.vm_host.specs.Host.{Executes as HostExecutes, AsksToOpen, HasRoom, MadeFew, EachMadeFew, sent_with, chain_in, asked_by, performed, Sent, done_as, moved_on}
-use Rattle.vm_host.specs.Part.{ask_by, request_of, executed, executed_ask, finishing}
+use Rattle.vm_host.specs.Host.{Answer, Executes as HostExecutes, HasPlace, HasPlaceFor, HasRoom, MadeFew, EachMadeFew, sent_with, chain_in, asked_by, Sent, done_as, moved_on}
+use Rattle.vm_host.specs.Part.{ExecutedAsk, ask_by, request_of, finishing}
 use Rattle.vm_script.specs.Script.{ScriptLines}
 use Rattle.vm_guest.specs.declared.asked.Asked.{Asked}
 use Rattle.vm_guest.specs.Chain.{chain_table, IsChain, Carries, reply_of, reply_bytes}
-use Rattle.vm_guest.specs.Process.{ProcessState, next, crossing, handle_at, way_by, crosses_by, sent, answered_here, Begins, Issues, CanPost, HasRoomFor, RepliesTo, IsReplyTo}
-use Rattle.vm_guest.specs.Guest.{GuestState, process_at, with_process, IsDriver, begins, begins_asked, issued, IssuesAt, Collected, Collects as GuestCollects, IsReply}
+use Rattle.vm_guest.specs.Process.{ProcessState, next, way_by, crosses_by, sent, answered_here, Begins, Issues, CanPost, HasRoomFor, RepliesTo, IsReplyTo}
+use Rattle.vm_guest.specs.Guest.{GuestState, process_at, with_process, begins, begins_asked, issued, IssuesAt, Collects as GuestCollects, IsReply}
 use Rattle.vm_handle.specs.Exchange.{crossing as crossing_by}
 use Rattle.vm_handle.specs.declared.way.Way.{Way}
 use Rattle.vm_handle.specs.declared.way.Way.TheVariants.{Crosses, AnsweredHere, Waits, TouchesMemory, NotBuilt}
-use Rattle.vm_guest.proofs.OrderlyLemmas.{next_is}
 use Rattle.vm_guest.proofs.GuestLemmas.{begun_as}
-use Rattle.vm_world.specs.World.{WorldState, Turns, Executes, Collects, after_posting, after_finishing}
-use Rattle.vm_world.specs.World.{is_enabled, turn_of}
+use Rattle.vm_world.specs.World.{WorldState, Turns, Executes, Collects}
 use Rattle.vm_world.specs.declared.step.Step.{Step}
 use Rattle.vm_world.specs.declared.step.Step.TheVariants.{Issue, Execute, Collect}
 use Rattle.vm_local.specs.State.{LocalState}
 use Rattle.vm_session.specs.declared.session.Session.{Session}
-use Rattle.vm_world.specs.Sound.{IsSoundOf, requests_of, replies_of, Seat, seat_at, session_in, StandsIf, SeatedBy}
+use Rattle.vm_world.specs.Sound.{IsSoundOf, Seat, seat_at, session_in, StandsIf, SeatedBy}
 use Rattle.vm_world.specs.Carried.{IsEmpty, world_of, CarriesCommand, IsBack, IsCarried}
 use Rattle.vm_world.proofs.ChainLemmas.{request_posted, served_posted, brought}
-use Rattle.vm_world.proofs.WorldLemmas.{begun_is, command_fits, reply_fits, room_to_open, sound_posting, sound_finishing, sound_collected, brought_to, IsBroughtTo, crossing_most, judged_same}
+use Rattle.vm_world.proofs.WorldLemmas.{command_fits, reply_fits, place_first, brought_to, IsBroughtTo, crossing_most, judged_same}
 
 -- ---- a line is begun
 
@@ -170,25 +166,24 @@ execute_step script g host q q' turn host' sound carried does = by_waiting q.wai
         let says = request_posted parcel.who c parcel fits carries in
         let r : Request = request_of parcel in
         let first : w.requests ≡ r ∷ map request_of ps = ap (map request_of) is in
-        let gives : performed served.memory host c ≡ record { response = served.response; back = served.back; host = host' } = served.does in
-        let fitting = reply_fits script w r (map request_of ps) served.memory c sound first (ap (λ (x : Request). x.asks) says) in
-        let may : MayReply c served.response = subst (λ a. MayReply c a.response) gives fitting.0 in
-        let none : served.back ≡ [] = ap (λ a. a.back) (sym gives) ∙ fitting.1 in
-        let sent_alone = served.sent_is ∙ ap (sent_with parcel (chain_table parcel.who (length (command_bytes c))) served.response) none in
-        let back = brought parcel.who c parcel sent_back served.response head fits may carries sent_alone in
+        let answer : Answer = served.answer in
+        let fitting = reply_fits script w r (map request_of ps) c answer sound first (ap (λ (x : Request). x.asks) says) served.does in
+        let sent_alone = served.sent_is ∙ ap (sent_with parcel (chain_table parcel.who (length (command_bytes c))) answer.response) fitting.1 in
+        let back = brought parcel.who c parcel sent_back answer.response head fits fitting.0 carries sent_alone in
         let d : DoneChain = done_as head (length parcel.table) sent_back in
         let q1 : Queue = moved_on q ps d in
-        let done_reply : executed served.memory host r ≡ record { reply = record { who = parcel.who; bytes = response_bytes served.response }; host = host' } =
-        ap (λ (x : Request). executed served.memory host x) says ∙ ap (finishing parcel.who) gives in
+        let asks : ExecutedAsk host r.who r.asks (finishing r.who answer) =
+        (let P : Request → Type 0 = λ x. ExecutedAsk host x.who x.asks (finishing x.who answer) in subst P (sym says) (answer, served.does, refl)) in
+        let H : HostState → Type 0 = λ x. IsStep Did w Execute (world_of script g x q1) q1 in
         let two : length parcel.table ≡ 2 = ap (λ (x : Parcel). length x.table) carries.is in
         let T : Turn → Type 0 = λ t. IsStep t w Execute (world_of script g host' q') q' in
         let Q : Queue → Type 0 = λ x. IsStep Did w Execute (world_of script g host' x) x in
-        let R : List Request → Type 0 = λ rs. Executes w rs (world_of script g host' q1) in
-        subst T (sym does.0) (subst Q (sym does.1.4) (record {
+        let R : List Request → Type 0 = λ rs. Executes w rs (world_of script g answer.host q1) in
+        subst T (sym does.0) (subst Q (sym does.1.4) (subst H (sym served.leaves) (record {
           turns = subst R (sym first) (
-            served.memory,
-            ap (λ (qs : List Reply). record w { host = host'; requests = map request_of ps; replies = qs }) (map_push (λ (x : DoneChain). reply_of x.finished) q.done d ∙ ap (λ x. w.replies ++ x ∷ []) back.reply)
-                ∙ ap (after_finishing w (map request_of ps)) (sym done_reply),
+            finishing r.who answer,
+            asks,
+            ap (λ (qs : List Reply). record w { host = answer.host; requests = map request_of ps; replies = qs }) (map_push (λ (x : DoneChain). reply_of x.finished) q.done d ∙ ap (λ x. w.replies ++ x ∷ []) back.reply),
           );
           carried = record {
             waiting = All-tail CarriesCommand parcel ps here;
@@ -205,7 +200,7 @@ execute_step script g host q q' turn host' sound carried does = by_waiting q.wai
             lengths = All-push (λ (x : DoneChain). x.count ≡ 2) q.done d carried.lengths two;
             size = carried.size;
           };
-        }))
+        })))
 
 -- ---- the driver collects a reply
 
@@ -285,23 +280,32 @@ may_post script g host q n sound carried = by_next (next (process_at g n))
     by_next None = tt
     by_next (Some a) = by_way (crosses_by (process_at g n) a)
 
-ok_descs : (r : Result (List Desc) ChainFault) (descs : List Desc) (parcel : Parcel) (c : Command) → r ≡ Ok descs → ask_by r parcel ≡ Judged (Ok c) → asked_by descs parcel.pages ≡ Ok OpenSession → c ≡ OpenSession
-ok_descs r descs parcel c is says opens = by_room (nat_lt (writable_bytes descs) 8) (sym (ap (λ x. ask_by x parcel) is) ∙ says)
+-- there is a place for what the chain that waits first adds
+pub may_execute : (script : ScriptLines) (g : GuestState) (host : HostState) (q : Queue) → IsSoundOf script (world_of script g host q) → IsCarried q → HasPlace q.waiting host
+may_execute script g host q sound carried = by_waiting q.waiting refl
   where
-    by_room : (b : Bool) → (if b then Unusable else Judged (asked_by descs parcel.pages)) ≡ Judged (Ok c) → c ≡ OpenSession
-    by_room true same = cc
-    by_room false same = sym (judged_same _ _ (sym (ap Judged opens) ∙ same))
+    by_command : (o : Result Command CmdFault) → ((c : Command) → o ≡ Ok c → HasPlaceFor host c) → IfOk o (HasPlaceFor host)
+    by_command (Ok c) place = place c refl
+    by_command (Err fault) place = tt
 
-pub may_execute : (script : ScriptLines) (g : GuestState) (host : HostState) (q : Queue) → IsSoundOf script (world_of script g host q) → IsCarried q → AsksToOpen q.waiting → length host.sessions < host.opens
-may_execute script g host q sound carried asks = by_waiting q.waiting refl asks
-  where
-    by_waiting : (ps : List Parcel) → q.waiting ≡ ps → AsksToOpen ps → length host.sessions < host.opens
-    by_waiting [] is asks = absurd asks
-    by_waiting (parcel ∷ ps) is asks =
+    by_room : (b : Bool) (o : Result Command CmdFault) (c d : Command) → (if b then Unusable else Judged o) ≡ Judged (Ok c) → o ≡ Ok d → c ≡ d
+    by_room true o c d says is = cc
+    by_room false o c d says is = judged_same c d (sym says ∙ ap Judged is)
+
+    by_chain : (parcel : Parcel) (r : Result (List Desc) ChainFault) (c : Command) → ask_by r parcel ≡ Judged (Ok c) → HasPlaceFor host c
+        → IfOk r (λ descs. IfOk (asked_by descs parcel.pages) (HasPlaceFor host))
+    by_chain parcel (Err fault) c says place = tt
+    by_chain parcel (Ok descs) c says place =
+        by_command (asked_by descs parcel.pages)
+        (λ d is. subst (HasPlaceFor host) (by_room (nat_lt (writable_bytes descs) 8) (asked_by descs parcel.pages) c d says is) place)
+
+    by_waiting : (ps : List Parcel) → q.waiting ≡ ps → HasPlace ps host
+    by_waiting [] is = tt
+    by_waiting (parcel ∷ ps) is =
         let own : CarriesCommand parcel = subst (λ xs. All CarriesCommand xs) is carried.waiting 0 parcel (omega arith) in
         let says = ap (λ (x : Request). x.asks) (request_posted parcel.who own.0 parcel own.1 own.2) in
-        let c : own.0 ≡ OpenSession = ok_descs (chain_in parcel) asks.0 parcel own.0 asks.1 says asks.2 in
-        room_to_open script (world_of script g host q) (request_of parcel) (map request_of ps) sound (ap (map request_of) is) (says ∙ ap (λ x. Judged (Ok x)) c)
+        by_chain parcel (chain_in parcel) own.0 says
+        (place_first script (world_of script g host q) (request_of parcel) (map request_of ps) own.0 sound (ap (map request_of) is) says)
 
 -- the chain that waits first has room for the memories that go along
 pub has_room : (q : Queue) → IsCarried q → HasRoom q.waiting

@@ -1,35 +1,32 @@
 -- Lemmas on what a step of the world is: it keeps the world sound, comes exactly where it may, and leaves fewer steps.
-use Rattle.std.proofs.Common.{◌≡◌, ◌≢◌, ℕ, suc, ◌+◌, ◌-◌, ◌*◌, ◌<◌, ◌≤◌, Bool, true, false, List, [], ◌∷◌, ◌++◌, Option, Some, None, Ok, Err, is_some, length, get_or, set, slice_get, refl, sym, ap, ◌∙◌, subst, arith, inl, inr, nat_lt, not, if◌then◌else◌}
+use Rattle.std.proofs.Common.{◌≡◌, ℕ, ◌+◌, ◌<◌, ◌≤◌, true, false, List, [], ◌∷◌, Option, Some, None, Ok, is_some, length, slice_get, refl, sym, ap, ◌∙◌, subst, arith, inl, inr, nat_lt, if◌then◌else◌}
 use Rattle.std.specs.Prelude.{sum_by}
 use Rattle.std.proofs.lemmas.Bool.{cases_lt}
 use Rattle.std.proofs.lemmas.Bool.Decides.{nat_tests}
-use Rattle.std.proofs.lemmas.List.{append-nil, length-append, length-map}
+use Rattle.std.proofs.lemmas.List.{append-nil, length-map}
 use Rattle.std.proofs.lemmas.List.Sums.{sum_by-set, sum_by_push}
 use Rattle.std.proofs.lemmas.Option.{slice_get_within, slice_get_past}
 use Rattle.std.specs.Option.{option_and_then}
-use Rattle.vm_link.specs.Queue.{Queue, Queues}
+use Rattle.vm_link.specs.Queue.{Queues}
 use Rattle.vm_link.specs.declared.link.Turn.{Turn}
 use Rattle.vm_link.specs.declared.link.Turn.TheVariants.{Did, Idle}
-use Rattle.vm_wire.specs.Message.{Ask, Request, Reply}
-use Rattle.vm_wire.specs.Message.Ask.{Unusable, Judged}
+use Rattle.vm_wire.specs.Message.{Request, Reply}
+use Rattle.vm_wire.specs.Message.Ask.{Judged}
 use Rattle.vm_wire.specs.declared.command.Command.{Command}
 use Rattle.vm_wire.specs.declared.command.Command.TheVariants.{OpenSession, CloseSession, Ioctl, Map, Unmap}
-use Rattle.v4l_const.specs.declared.ioctl_code.IoctlCode.{IoctlCode}
 use Rattle.v4l_const.specs.declared.ioctl_code.IoctlCode.TheVariants.{QBuf}
 use Rattle.v4l_const.specs.declared.model.Model.{Model}
-use Rattle.vm_host.specs.Sessions.{HostState}
 use Rattle.vm_script.specs.Script.{ProcessLines, ScriptLines}
 use Rattle.vm_guest.specs.declared.asked.Asked.{Asked}
 use Rattle.vm_guest.specs.declared.asked.Statement.{Statement}
-use Rattle.vm_guest.specs.declared.status.Status.{Status}
-use Rattle.vm_guest.specs.declared.status.Status.TheVariants.{AtRest, Crossing}
-use Rattle.vm_guest.specs.Asking.{asked_by, asked_at, statements_of}
-use Rattle.vm_guest.specs.Process.{ProcessState, is_at_rest, begun, current, next, crossing, issuing, can_issue, crosses_by, sent, answered_here, replied, Issues}
+use Rattle.vm_guest.specs.declared.status.Status.TheVariants.{AtRest}
+use Rattle.vm_guest.specs.Asking.{asked_by, asked_at}
+use Rattle.vm_guest.specs.Process.{ProcessState, is_at_rest, begun, current, next, issuing, can_issue, crosses_by, sent, answered_here, Issues}
 use Rattle.vm_guest.specs.Orderly.{IsOrderly}
-use Rattle.vm_guest.specs.Guest.{GuestState, no_process, process_at, with_process, lines_at, IsDriver, Posting, issued, IssuesAt, Collected}
+use Rattle.vm_guest.specs.Guest.{GuestState, no_process, process_at, with_process, IsDriver, IssuesAt, Collected}
 use Rattle.vm_guest.proofs.LinesLemmas.{some_asked}
 use Rattle.vm_guest.proofs.OrderlyLemmas.{next_is, crossing_is, begun_at_rest, begun_crossing, asks_read, built_untouched}
-use Rattle.vm_guest.proofs.GuestLemmas.{process_past, begun_as}
+use Rattle.vm_guest.proofs.GuestLemmas.{begun_as}
 use Rattle.vm_world.specs.World.{WorldState, Turns, Executes, Collects, after_posting, weight_of, request_weight, unbegun, left_of, turn_by}
 use Rattle.vm_world.specs.declared.step.Step.TheVariants.{Issue, Execute, Collect}
 use Rattle.vm_world.specs.Sound.{IsSoundOf}
@@ -47,7 +44,7 @@ sound_execute script w w' Did sound does = by_requests w.requests refl does
   where
     by_requests : (rs : List Request) → w.requests ≡ rs → Executes w rs w' → IsSoundOf script w'
     by_requests [] is does = absurd does
-    by_requests (r ∷ rs) is does = subst (IsSoundOf script) (sym does.1) (sound_finishing script w r rs does.0 sound is)
+    by_requests (r ∷ rs) is does = subst (IsSoundOf script) (sym does.2) (sound_finishing script w r rs does.0 sound is does.1)
 sound_execute script w w' Idle sound does = subst (IsSoundOf script) (sym does) sound
 
 pub sound_collect : (script : ScriptLines) (w w' : WorldState) (turn : Turn) → IsSoundOf script w → Turns turn w Collect w' → IsDriver script w'.guest → IsSoundOf script w'

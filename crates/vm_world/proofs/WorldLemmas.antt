@@ -1,12 +1,11 @@
 -- Lemmas on the world: each step keeps it sound.
-use Rattle.std.proofs.Common.{◌≡◌, ◌≢◌, ℕ, zero, suc, ◌+◌, ◌-◌, ◌*◌, ◌<◌, ◌≤◌, ◌^◌, ◌==◌, Bool, true, false, List, [], ◌∷◌, ◌++◌, Option, Some, None, Ok, Err, is_some, unwrap_or, All, length, take, get_or, set, slice_get, refl, sym, ap, ◌∙◌, subst, arith, inl, inr, if◌then◌else◌}
+use Rattle.std.proofs.Common.{◌≡◌, ◌≢◌, ℕ, suc, ◌+◌, ◌<◌, ◌≤◌, ◌^◌, Bool, true, false, List, [], ◌∷◌, ◌++◌, Option, Some, None, Ok, Err, is_some, unwrap_or, All, length, take, get_or, set, refl, sym, ap, ◌∙◌, subst, arith, inl, inr, if◌then◌else◌}
 use Rattle.std.specs.Prelude.{sum_by}
 use Rattle.std.proofs.lemmas.Bool.{cases_eq, cases_lt}
 use Rattle.std.proofs.lemmas.List.{append-nil, length-append, length-set, get_or-set_same, get_or-set_other}
 use Rattle.std.proofs.lemmas.List.Elements.{All-push, All-tail}
 use Rattle.std.proofs.lemmas.List.Sums.{sum_by-cons, sum_by-set}
 use Rattle.std.proofs.lemmas.Option.{slice_get_within, get_or_from_slice_get}
-use Rattle.v4l_const.specs.declared.model.Model.{Model}
 use Rattle.vm_local.specs.declared.call.Call.{Call}
 use Rattle.vm_local.specs.declared.call.Call.TheVariants.{OpenHandle, CloseHandle, QueryCap, EnumFmt, GFmt, TryFmt, SFmt, EnumInput, GInput, SInput, ReqBufs, QueryBuf, UAlloc, QBuf, StreamOn, StreamOff, DqBuf, Mmap, Subscribe, Unsubscribe, DqEvent, Munmap, Peek, Hash, Poke, Fill}
 use Rattle.vm_local.specs.State.{LocalState}
@@ -18,11 +17,10 @@ use Rattle.vm_wire.specs.Message.{Ask, Request, Reply}
 use Rattle.vm_wire.specs.Message.Ask.{Unusable, Judged}
 use Rattle.vm_wire.specs.Wire.{response_bytes, response_of, response_len, IsCommand, Answers as MayReply}
 use Rattle.vm_wire.specs.declared.command.Command.{Command}
-use Rattle.vm_wire.specs.declared.command.Command.TheVariants.{OpenSession, CloseSession, Ioctl}
+use Rattle.vm_wire.specs.declared.command.Command.TheVariants.{OpenSession, CloseSession, Ioctl, Map, Unmap}
 use Rattle.vm_wire.specs.declared.response.Response.{Response}
-use Rattle.vm_host.specs.Sessions.{HostState}
-use Rattle.vm_host.specs.Host.{performed}
-use Rattle.vm_host.specs.Part.{Finishing, executed, executed_ask, finishing}
+use Rattle.vm_host.specs.Host.{Answer, Performs, HasPlaceFor}
+use Rattle.vm_host.specs.Part.{Finishing, Executed, ExecutedAsk, finishing}
 use Rattle.v4l_const.specs.declared.ioctl_code.IoctlCode.{IoctlCode}
 use Rattle.vm_handle.specs.Exchange.{command_of, crossing as crossing_by}
 use Rattle.vm_handle.specs.declared.way.Way.TheVariants.{Crosses, AnsweredHere, NotBuilt}
@@ -37,16 +35,16 @@ use Rattle.vm_guest.specs.declared.asked.Asked.{Asked}
 use Rattle.vm_guest.specs.declared.status.Status.{Status}
 use Rattle.vm_guest.specs.declared.status.Status.TheVariants.{AtRest, Crossing}
 use Rattle.vm_guest.specs.Asking.{asked_at, statements_of}
-use Rattle.vm_guest.specs.Process.{ProcessState, is_at_rest, begun, current, next, crossing, handle_in, handle_at, way_by, crosses_by, sent, answered_here, replied, IsAnswered}
-use Rattle.vm_guest.specs.Orderly.{IsOrderly, out_on}
+use Rattle.vm_guest.specs.Process.{ProcessState, is_at_rest, current, next, crossing, handle_at, way_by, crosses_by, sent, answered_here, replied, IsAnswered}
+use Rattle.vm_guest.specs.Orderly.{out_on}
 use Rattle.vm_guest.specs.Guest.{GuestState, no_process, process_in, process_at, with_process, lines_at, IsDriver, Posting, begins_asked, issued, Collected}
 use Rattle.vm_guest.proofs.LinesLemmas.{asking_line}
-use Rattle.vm_guest.proofs.OrderlyLemmas.{next_is, crossing_is, here_is, crossing_at_rest, begun_at_rest, begun_crossing, asks_read, out_same}
-use Rattle.vm_guest.proofs.GuestLemmas.{process_past, kept_issued, begun_as, begins_as, driver_with}
+use Rattle.vm_guest.proofs.OrderlyLemmas.{next_is, crossing_is, here_is, crossing_at_rest, asks_read, out_same}
+use Rattle.vm_guest.proofs.GuestLemmas.{process_past, begun_as, begins_as}
 use Rattle.vm_world.specs.World.{WorldState, after_posting, after_finishing}
-use Rattle.vm_world.specs.Sound.{Seat, no_seat, seat_of, seat_at, Stage, IsAsking, IsTold, requests_of, replies_of, crossing_count, session_count, IsResting, IsSoundProcess, IsSoundOf, Agrees}
+use Rattle.vm_world.specs.Sound.{Seat, no_seat, seat_of, seat_at, IsAsking, IsTold, requests_of, replies_of, crossing_count, session_count, IsResting, IsSoundProcess, IsSoundOf}
 use Rattle.vm_world.proofs.ListLemmas.{own_first, other_first, own_pushed, other_pushed, each_process}
-use Rattle.vm_world.proofs.SeatLemmas.{with_seat, row_at, IsPlace, sessions_with, places_with, row_length, vacant_more, sessions_most}
+use Rattle.vm_world.proofs.SeatLemmas.{with_seat, row_at, sessions_with, places_with, vacant_more, sessions_most}
 use Rattle.vm_world.proofs.DoneLemmas.{IsHere, IsDone, IsServed, done}
 use Rattle.vm_world.proofs.ChainLemmas.{replies_told}
 use Rattle.vm_world.proofs.SliceLemmas.{resting_is, quiet_is, slices_answered, slices_sent, IsWaiting, waiting_is, slices_executed, IsBrought, brought_is, slices_replied}
@@ -369,11 +367,34 @@ room_to_open script w r rs sound first opens =
     let more = vacant_more sound.seats r.who served.waiting.asked.handle served.here.place vacant in
     omega (arith, more, sound.opened, sound.opens)
 
-pub sound_finishing : (script : ScriptLines) (w : WorldState) (r : Request) (rs : List Request) (memory : Bool) → IsSoundOf script w → w.requests ≡ r ∷ rs
-    → IsSoundOf script (after_finishing w rs (executed memory w.host r))
-sound_finishing script w r rs memory sound first =
-    let F : Ask → Type 0 = λ x. IsSoundOf script (after_finishing w rs (executed_ask memory w.host r.who x)) in
-    subst F (sym asking.asked) there
+-- what the command of the first request comes to is done for the request's handle
+serves_first : (script : ScriptLines) (w : WorldState) (r : Request) (rs : List Request) (c : Command) (sound : IsSoundOf script w) (first : w.requests ≡ r ∷ rs) → r.asks ≡ Judged (Ok c)
+    → (handle : ℕ) × (line : ℕ) × (call : Call) × IsServed w.host sound.seats r.who handle (handle_at (process_at w.guest r.who) handle) line call c
+serves_first script w r rs c sound first says =
+    let served = served_first script w r rs sound first in
+    let asking = served.waiting.asking in
+    let a : Asked = served.waiting.asked in
+    let handle : HandleState = handle_at (process_at w.guest r.who) a.handle in
+    let same : asking.command ≡ c = command_alike asking.command c (sym asking.asked ∙ says) in
+    let does = done w.host sound.seats r.who a.handle handle asking.sent.line asking.sent.call asking.command served.built served.here asking.out.crosses served.vacant in
+    (a.handle, asking.sent.line, asking.sent.call, subst (IsServed w.host sound.seats r.who a.handle handle asking.sent.line asking.sent.call) same does)
+
+-- there is a place for what the first request adds
+pub place_first : (script : ScriptLines) (w : WorldState) (r : Request) (rs : List Request) (c : Command) → IsSoundOf script w → w.requests ≡ r ∷ rs → r.asks ≡ Judged (Ok c) → HasPlaceFor w.host c
+place_first script w r rs OpenSession sound first says = room_to_open script w r rs sound first says
+place_first script w r rs (Map id writable offset) sound first says =
+    let served = serves_first script w r rs (Map id writable offset) sound first says in
+    let other : true ≡ false = served.3.other in
+    cc
+place_first script w r rs (CloseSession id) sound first says = tt
+place_first script w r rs (Ioctl id code payload) sound first says = tt
+place_first script w r rs (Unmap addr) sound first says = tt
+
+pub sound_finishing : (script : ScriptLines) (w : WorldState) (r : Request) (rs : List Request) (f : Finishing) → IsSoundOf script w → w.requests ≡ r ∷ rs → Executed w.host r f
+    → IsSoundOf script (after_finishing w rs f)
+sound_finishing script w r rs f sound first executed =
+    let F : Finishing → Type 0 = λ x. IsSoundOf script (after_finishing w rs x) in
+    subst F (sym came.2) there
   where
     served : IsServedFirst script w r rs sound
     served = served_first script w r rs sound first
@@ -393,20 +414,26 @@ sound_finishing script w r rs memory sound first =
     c : Command
     c = asking.command
 
-    does : IsServed w.host sound.seats n a.handle (handle_at p a.handle) asking.sent.line asking.sent.call memory c
-    does = done w.host sound.seats n a.handle (handle_at p a.handle) asking.sent.line asking.sent.call c memory served.built served.here asking.out.crosses served.vacant
+    came : (answer : Answer) × Performs w.host c answer × (f ≡ finishing n answer)
+    came = let P : Ask → Type 0 = λ x. ExecutedAsk w.host n x f in subst P asking.asked executed
 
-    is : IsDone w.host sound.seats n a.handle (handle_at p a.handle) asking.sent.line asking.sent.call c (performed memory w.host c)
-    is = does.1
+    answer : Answer
+    answer = came.0
+
+    does : IsServed w.host sound.seats n a.handle (handle_at p a.handle) asking.sent.line asking.sent.call c
+    does = done w.host sound.seats n a.handle (handle_at p a.handle) asking.sent.line asking.sent.call c served.built served.here asking.out.crosses served.vacant
+
+    is : IsDone w.host sound.seats n a.handle (handle_at p a.handle) asking.sent.line asking.sent.call c answer
+    is = does.does answer came.1
 
     seat : Seat
-    seat = seat_of (with_reply (handle_at p a.handle) asking.sent.line asking.sent.call is.reply (performed memory w.host c).response)
+    seat = seat_of (with_reply (handle_at p a.handle) asking.sent.line asking.sent.call is.reply answer.response)
 
     q : Reply
-    q = record { who = n; bytes = response_bytes (performed memory w.host c).response }
+    q = record { who = n; bytes = response_bytes answer.response }
 
     w' : WorldState
-    w' = record w { host = (performed memory w.host c).host; requests = rs; replies = w.replies ++ q ∷ [] }
+    w' = record w { host = answer.host; requests = rs; replies = w.replies ++ q ∷ [] }
 
     seats' : List (List Seat)
     seats' = with_seat sound.seats n a.handle seat
@@ -424,7 +451,7 @@ sound_finishing script w r rs memory sound first =
     row_is = get_or-set_same sound.seats n (set (row_at sound.seats n) a.handle seat) [] served.here.place.row
 
     own : IsSoundProcess p (row_at seats' n) (requests_of w' n) (replies_of w' n)
-    own = rw (row_is, served.none.0, told) (slices_executed p (row_at sound.seats n) r q a asking.sent c (performed memory w.host c).response is.reply seat served.waiting.on_its_way served.inside asking.out is.fits refl is.legal refl old)
+    own = rw (row_is, served.none.0, told) (slices_executed p (row_at sound.seats n) r q a asking.sent c answer.response is.reply seat served.waiting.on_its_way served.inside asking.out is.fits refl is.legal refl old)
 
     each : (m : ℕ) → m < length w.guest.processes → IsSoundProcess (process_at w.guest m) (row_at seats' m) (requests_of w' m) (replies_of w' m)
     each m inside = elim (cases_eq m n) [
@@ -558,21 +585,17 @@ command_fits script w n a c sound is crosses =
       small = few_sessions script w sound;
     } in (
       within,
-      (done w.host sound.seats n a.handle (handle_at p a.handle) a.line a.call c true asked.built here crosses
-          (λ nonblock opens. vacant_before script w.guest n a nonblock sound.driver within at.1 opens)).0,
+      (done w.host sound.seats n a.handle (handle_at p a.handle) a.line a.call c asked.built here crosses
+          (λ nonblock opens. vacant_before script w.guest n a nonblock sound.driver within at.1 opens)).fits,
     )
 
 -- the response to the first request is one that its command may have, and no memory goes along
-pub reply_fits : (script : ScriptLines) (w : WorldState) (r : Request) (rs : List Request) (memory : Bool) (c : Command) → IsSoundOf script w → w.requests ≡ r ∷ rs → r.asks ≡ Judged (Ok c)
-    → MayReply c (performed memory w.host c).response × ((performed memory w.host c).back ≡ [])
-reply_fits script w r rs memory c sound first says =
-    let served = served_first script w r rs sound first in
-    let p : ProcessState = process_at w.guest r.who in
-    let a : Asked = served.waiting.asked in
-    let asking = served.waiting.asking in
-    let same : asking.command ≡ c = command_alike asking.command c (sym asking.asked ∙ says) in
-    let does = done w.host sound.seats r.who a.handle (handle_at p a.handle) asking.sent.line asking.sent.call asking.command memory served.built served.here asking.out.crosses served.vacant in
-    subst (λ x. MayReply x (performed memory w.host x).response × ((performed memory w.host x).back ≡ [])) same (does.1.fits, does.1.alone)
+pub reply_fits : (script : ScriptLines) (w : WorldState) (r : Request) (rs : List Request) (c : Command) (a : Answer) → IsSoundOf script w → w.requests ≡ r ∷ rs → r.asks ≡ Judged (Ok c)
+    → Performs w.host c a → MayReply c a.response × (a.back ≡ [])
+reply_fits script w r rs c a sound first says performs =
+    let served = serves_first script w r rs c sound first says in
+    let done = served.3.does a performs in
+    (done.fits, done.alone)
 
 -- What came back first is a response to the line of a process that is on its way.
 pub record IsBroughtTo (g : GuestState) (n : ℕ) (bytes : List ℕ) : Type 0 where

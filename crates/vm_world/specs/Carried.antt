@@ -1,5 +1,5 @@
 -- What the link's parcels are to the world: each is what it says.
-use Rattle.std.specs.Prelude.{ℕ, ◌≡◌, ◌≤◌, List, [], length, map, All}
+use Rattle.std.specs.Prelude.{ℕ, ◌≡◌, ◌≤◌, [], length, map, All}
 use Rattle.vm_link.specs.Queue.{Queue}
 use Rattle.vm_link.specs.declared.chains.DoneChain.{DoneChain}
 use Rattle.vm_link.specs.declared.parcel.Parcel.{Parcel}

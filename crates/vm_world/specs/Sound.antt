@@ -1,7 +1,6 @@
 -- What holds of the world between steps. It is said of slices, one for each handle, and of a few things that are about
 -- several handles.
 use Rattle.std.specs.Prelude.{ℕ, ◌≡◌, ◌+◌, ◌<◌, ◌≤◌, ◌^◌, ◌==◌, Bool, true, false, List, [], ◌∷◌, Option, Some, None, Ok, length, map, filter, sum_by, slice_index_or, is_some, All, if◌then◌else◌}
-use Rattle.v4l_const.specs.declared.model.Model.{Model}
 use Rattle.v4l_const.specs.declared.model.Model.TheVariants.{Capture}
 use Rattle.vm_local.specs.State.{QueueState, LocalState, opening, opening_queue}
 use Rattle.vm_local.specs.declared.reply.Reply.{Reply as LocalReply}
@@ -16,7 +15,7 @@ use Rattle.vm_handle.specs.Handle.{HandleState, local_of, asks, IsAnswer, with_r
 use Rattle.vm_handle.specs.declared.sent.Sent.{Sent}
 use Rattle.vm_guest.specs.declared.asked.Asked.{Asked}
 use Rattle.vm_guest.specs.Process.{ProcessState, is_at_rest, crossing, handle_at}
-use Rattle.vm_guest.specs.Guest.{GuestState, process_at, IsDriver}
+use Rattle.vm_guest.specs.Guest.{process_at, IsDriver}
 use Rattle.vm_script.specs.Script.{ScriptLines}
 use Rattle.vm_world.specs.World.{WorldState}
 

@@ -1,13 +1,12 @@
 -- The driver, the device and what is said between them, step by step.
-use Rattle.std.specs.Prelude.{ℕ, ◌≡◌, ◌+◌, ◌-◌, ◌*◌, Bool, true, false, List, [], ◌∷◌, ◌++◌, Option, Some, None, Ok, Err, length, sum_by, if◌then◌else◌}
-use Rattle.v4l_const.specs.declared.ioctl_code.IoctlCode.{IoctlCode}
+use Rattle.std.specs.Prelude.{ℕ, ◌≡◌, ◌+◌, ◌-◌, ◌*◌, Bool, true, false, List, [], ◌∷◌, ◌++◌, Some, Ok, Err, length, sum_by, if◌then◌else◌}
 use Rattle.v4l_const.specs.declared.ioctl_code.IoctlCode.TheVariants.{QBuf}
 use Rattle.vm_wire.specs.Message.{Ask, Request, Reply}
 use Rattle.vm_wire.specs.Message.Ask.{Unusable, Judged}
 use Rattle.vm_wire.specs.declared.command.Command.{Command}
 use Rattle.vm_wire.specs.declared.command.Command.TheVariants.{Ioctl}
 use Rattle.vm_host.specs.Sessions.{HostState}
-use Rattle.vm_host.specs.Part.{Finishing, executed}
+use Rattle.vm_host.specs.Part.{Finishing, Executed}
 use Rattle.vm_link.specs.declared.link.Turn.{Turn}
 use Rattle.vm_link.specs.declared.link.Turn.TheVariants.{Did, Idle}
 use Rattle.vm_host.specs.Host.{fresh_host}
@@ -95,10 +94,10 @@ after_posting w p = record w { guest = p.guest; requests = w.requests ++ p.posts
 abbrev pub after_finishing : WorldState → List Request → Finishing → WorldState
 after_finishing w rest f = record w { host = f.host; requests = rest; replies = w.replies ++ f.reply ∷ [] }
 
--- the first request is done; whether memory came is free
+-- the first request is done
 abbrev pub Executes : WorldState → List Request → WorldState → Type 0
 Executes w [] w' = ⊥
-Executes w (r ∷ rs) w' = (memory : Bool) × (w' ≡ after_finishing w rs (executed memory w.host r))
+Executes w (r ∷ rs) w' = (f : Finishing) × Executed w.host r f × (w' ≡ after_finishing w rs f)
 
 -- the first reply is collected
 abbrev pub Collects : WorldState → List Reply → WorldState → Type 0

@@ -1,4 +1,4 @@
-use Rattle.std.proofs.Common.{◌≡◌, rules, arith, refl, ap, ◌∙◌, subst, take, drop, length, replicate, vec_capacity, None}
+use Rattle.std.proofs.Common.{rules, arith, refl, ap, ◌∙◌, subst, take, drop, length, replicate, vec_capacity, None}
 use Rattle.vm_link.specs.declared.parcel.Parcel.{Parcel}
 use Rattle.vm_wire.specs.Wire.{response_bytes}
 use Rattle.vm_host.specs.Carrier.{written}
@@ -19,7 +19,7 @@ returns-clause-served c =
       room = vec_capacity c.parcel.inside.held;
     } in
     let between : Parcel = record before { held = c.answer-response.new.held.items; room = vec_capacity c.answer-response.new.held } in
-    let P : Parcel → Type 0 = λ p. Served None c.args.chain.now.descs p c.args.sessions.now c.encode_response-len.result c.write_reply.new.parcel c.answer-response.new.self in
+    let P : Parcel → Type 0 = λ p. Served None c.args.chain.now.descs p c.args.device.now c.encode_response-len.result c.write_reply.new.parcel c.answer-response.new.self in
     let after =
     reply_written between c.write_reply.new.parcel c.args.chain.now.descs c.descs-2.result.now c.encode_response-len.result c.encode_response-len.new.out
     (drop (length (response_bytes c.answer-response.result)) (replicate 304 0)) (response_bytes c.answer-response.result) (take c.encode_response-len.result c.encode_response-len.new.out)
@@ -30,6 +30,6 @@ returns-clause-served c =
       room = k;
     }) c.answer-response.ensures.capacity in
     subst P c.parcel.view_is (
-    answered c.args.chain.now.descs before c.write_reply.new.parcel c.answer-response.new.held.items c.args.sessions.now c.answer-response.new.self c.encode_response-len.result c.writable-writable.result
+    answered c.args.chain.now.descs before c.write_reply.new.parcel c.answer-response.new.held.items c.args.device.now c.answer-response.new.self c.encode_response-len.result c.writable-writable.result
     c.gather.new.bytes.items c.decode_command.result c.answer-response.result (omega (arith, c.if-writable-lt-STATUS_LEN.false)) c.writable-writable.ensures (search rules) (search rules) c.answer-response.ensures.given
     c.encode_response-len.ensures.count after)

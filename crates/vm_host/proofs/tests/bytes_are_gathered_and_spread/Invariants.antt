@@ -1,7 +1,6 @@
-use Rattle.std.proofs.Common.{◌≡◌, ◌≤◌, ◌*◌, length}
-use Rattle.vm_host.specs.Host.{EachMadeMost}
+use Rattle.vm_host.specs.Growth.{HasServed}
 use Rattle.vm_host.proofs.tests.bytes_are_gathered_and_spread.Given as goal
 
--- at most one session was opened in each row, and 32 frames were made
+-- as many chains were served as there were rows
 abbrev pub invariant-loop-numbers : goal.invariant-loop-numbers
-invariant-loop-numbers g l = (l.host.opens ≡ 64) × (length l.host.sessions ≤ l.numbers-index) × EachMadeMost (32 * l.numbers-index) l.host
+invariant-loop-numbers g l = HasServed l.numbers-index 64 l.host

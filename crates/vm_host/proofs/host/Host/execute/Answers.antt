@@ -1,22 +1,21 @@
-use Rattle.std.proofs.Common.{◌<◌, length, sym, ap, subst, refl, ◌∙◌}
+use Rattle.std.proofs.Common.{sym, ap, subst, refl, ◌∙◌}
 use Rattle.vm_host.specs.Sessions.{HostState}
-use Rattle.vm_host.specs.Host.{Executes, EachMadeFew}
+use Rattle.vm_host.specs.Host.{Executes, EachMadeFew, HasPlace}
 use Rattle.vm_link.specs.Queue.{Queue, queue_at}
 use Rattle.vm_link.specs.declared.link.Turn.TheVariants.{Did}
 use Rattle.vm_link.specs.declared.link.QueueId.TheVariants.{Command, Event}
 use Rattle.vm_link.proofs.QueueLemmas.{taken_is_out}
-use Rattle.vm_host.proofs.ServeLemmas.{walked_fits, taken_opens, taken_room, executed}
+use Rattle.vm_host.proofs.ServeLemmas.{walked_fits, taken_place, taken_room, executed}
 use Rattle.vm_host.proofs.host.Host.execute.Goals as goal
 
 pub serve-used-requires-clause-fits : goal.serve-used-requires-clause-fits
 serve-used-requires-clause-fits g c =
     walked_fits (queue_at Command (g.L.Link.queues c.args.link.now)) (queue_at Command (g.L.Link.queues c.take.new.self)) c.self.inside.chain c.take.new.chain c.in-Some.taken c.self.invariant.0 c.in-Some.ensures.taken
 
-pub serve-used-requires-clause-opens : goal.serve-used-requires-clause-opens
-serve-used-requires-clause-opens g c =
-    let P : HostState → Type 0 = λ h. length h.sessions < h.opens in
-    λ none opens. subst P (sym c.self.view_is)
-    (c.requires.opens (taken_opens (queue_at Command (g.L.Link.queues c.args.link.now)) (queue_at Command (g.L.Link.queues c.take.new.self)) c.self.inside.chain c.take.new.chain c.in-Some.taken c.self.invariant.0 c.in-Some.ensures.taken none opens))
+pub serve-used-requires-clause-place : goal.serve-used-requires-clause-place
+serve-used-requires-clause-place g c =
+    taken_place c.self.inside.device (queue_at Command (g.L.Link.queues c.args.link.now)) (queue_at Command (g.L.Link.queues c.take.new.self)) c.self.inside.chain c.take.new.chain c.in-Some.taken c.self.invariant.0 c.in-Some.ensures.taken
+    (subst (λ (h : HostState). HasPlace (queue_at Command (g.L.Link.queues c.args.link.now)).waiting h) (sym c.self.view_is) c.requires.place)
 
 pub serve-used-requires-clause-frames : goal.serve-used-requires-clause-frames
 serve-used-requires-clause-frames g c = subst EachMadeFew (sym c.self.view_is) c.requires.frames
@@ -32,9 +31,9 @@ finish-requires g c =
 pub returns-clause-executes : goal.returns-clause-executes
 returns-clause-executes g c =
     let q : Queue = queue_at Command (g.L.Link.queues c.args.link.now) in
-    let P : HostState → Type 0 = λ h. Executes q.waiting h q Did c.serve-used.new.sessions (queue_at Command (g.L.Link.queues c.finish.new.self)) in
+    let P : HostState → Type 0 = λ h. Executes q.waiting h q Did c.serve-used.new.device (queue_at Command (g.L.Link.queues c.finish.new.self)) in
     subst P c.self.view_is (executed q (queue_at Command (g.L.Link.queues c.take.new.self)) (queue_at Command (g.L.Link.queues c.finish.new.self)) c.self.inside.chain c.take.new.chain c.in-Some.taken
-    c.self.inside.sessions c.serve-used.new.sessions c.serve-used.result c.serve-used.new.parcel (record { head = c.in-Some.taken.head; used = c.serve-used.result; parcel = c.serve-used.new.parcel }) c.self.invariant.0 c.in-Some.ensures.taken
+    c.self.inside.device c.serve-used.new.device c.serve-used.result c.serve-used.new.parcel (record { head = c.in-Some.taken.head; used = c.serve-used.result; parcel = c.serve-used.new.parcel }) c.self.invariant.0 c.in-Some.ensures.taken
     c.serve-used.ensures.served refl (ap (queue_at Command) c.finish.ensures))
 
 pub returns-clause-events : goal.returns-clause-events

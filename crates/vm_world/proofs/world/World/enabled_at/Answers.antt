@@ -1,4 +1,4 @@
-use Rattle.std.proofs.Common.{sym, ◌∙◌, arith}
+use Rattle.std.proofs.Common.{sym, ◌∙◌}
 use Rattle.std.proofs.lemmas.List.{length-map}
 use Rattle.vm_link.specs.Queue.{queue_at}
 use Rattle.vm_link.specs.declared.link.QueueId.TheVariants.{Command as Commands}

@@ -1,8 +1,7 @@
-use Rattle.std.proofs.Common.{◌≡◌, ◌<◌, sym, ap, ◌∙◌, subst}
+use Rattle.std.proofs.Common.{◌≡◌, ◌<◌, sym, ap, subst}
 use Rattle.vm_link.specs.Queue.{queue_at}
 use Rattle.vm_link.specs.declared.link.QueueId.TheVariants.{Command, Event}
 use Rattle.vm_link.specs.declared.link.Turn.{Turn}
-use Rattle.vm_link.specs.declared.link.Turn.TheVariants.{Did}
 use Rattle.vm_world.specs.World.{WorldState, Turns, left_of, turn_of}
 use Rattle.vm_world.specs.declared.step.Step.{Step}
 use Rattle.vm_world.specs.declared.step.Step.TheVariants.{Issue, Execute, Collect}
@@ -23,8 +22,8 @@ invariant_of-self g c =
       still_empty (queue_at Event (g.L.Link.queues c.self.inside.link)) _ (events_issued c.in-Issue.p c.self.inside.guest c.issue.new.self (g.L.Link.queues c.self.inside.link) (g.L.Link.queues c.issue.new.link) c.issue.result c.issue.ensures.issues) c.self.invariant.2,
     )
 
-pub execute-requires-clause-opens : goal.execute-requires-clause-opens
-execute-requires-clause-opens g c = may_execute c.self.inside.script c.self.inside.guest c.self.inside.host (queue_at Command (g.L.Link.queues c.self.inside.link)) c.self.invariant.0 c.self.invariant.1
+pub execute-requires-clause-place : goal.execute-requires-clause-place
+execute-requires-clause-place g c = may_execute c.self.inside.script c.self.inside.guest c.self.inside.host (queue_at Command (g.L.Link.queues c.self.inside.link)) c.self.invariant.0 c.self.invariant.1
 
 pub execute-requires-clause-room : goal.execute-requires-clause-room
 execute-requires-clause-room g c = has_room (queue_at Command (g.L.Link.queues c.self.inside.link)) c.self.invariant.1
