@@ -10,6 +10,6 @@ invariant_of-self c = (
   search rules,
   search rules,
   search rules,
-  unmap_fits (sessions_at c.self.inside.slab c.self.inside.keys.items) c.self.inside.region c.unmap.new.self c.args.addr c.unmap.result c.self.invariant.5
+  unmap_fits (sessions_at c.self.inside.slab c.self.inside.keys.items) c.self.inside.region c.unmap.new.self _ c.unmap.result c.self.invariant.5
       c.unmap.ensures.refused c.unmap.ensures.own c.unmap.ensures.ok c.unmap.ensures.err,
 )
