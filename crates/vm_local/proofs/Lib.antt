@@ -5,7 +5,6 @@ pub mod BytesLemmas
 pub mod RangeLemmas
 pub mod FormatLemmas
 pub mod PaddedPictureLemmas
-pub mod FrameLemmas
 pub mod KeptLemmas
 pub mod SameLemmas
 pub mod StepLemmas
@@ -15,3 +14,10 @@ pub mod CountLemmas
 pub mod ListedLemmas
 pub mod LiveLemmas
 pub mod ThereLemmas
+pub mod WithoutBytesLemmas
+pub mod RecordLemmas
+pub mod ShortLemmas
+pub mod OrderlyLemmas
+pub mod MovesLemmas
+pub mod JoinedLemmas
+pub mod FewLemmas

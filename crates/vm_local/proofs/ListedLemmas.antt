@@ -55,10 +55,10 @@ states_set (c ∷ cs) zero b h (suc i) = refl
 states_set (c ∷ cs) (suc p) b h zero = refl
 states_set (c ∷ cs) (suc p) b h (suc i) = states_set cs p b h i
 
-abbrev AreIdle : List Buffer → Type 0
+abbrev pub AreIdle : List Buffer → Type 0
 AreIdle bs = (i : ℕ) → (get_or bs i no_buffer).state ≡ Idle
 
-abbrev IsBare : QueueState → Type 0
+abbrev pub IsBare : QueueState → Type 0
 IsBare v = (v.queued ≡ []) × (v.done ≡ []) × AreIdle v.buffers
 
 place_bare : (v : QueueState) (n i : ℕ) → IsBare v → n ≡ 0 → IsInPlace v n i
@@ -74,7 +74,7 @@ idle_replicate b h zero i = refl
 idle_replicate b h (suc n) zero = h
 idle_replicate b h (suc n) (suc i) = idle_replicate b h n i
 
-idle_fresh : (kind : MemoryKind) (size first n : ℕ) → AreIdle (fresh_buffers kind size first n)
+pub idle_fresh : (kind : MemoryKind) (size first n : ℕ) → AreIdle (fresh_buffers kind size first n)
 idle_fresh Mmap size first n = idle_map (λ m. fresh_buffer size (Some m)) (λ m. refl) (range_with_len first n)
 idle_fresh UserPtr size first n = idle_replicate (fresh_buffer size None) refl n
 
@@ -158,7 +158,7 @@ sound_alike s t v h old =
     (length-set s.queues p v ∙ old.0, places_alike (types_of s.model) s.queues s.owed p v h old.1)
 
 -- a queue of the state has nothing in it any more, and nothing is owed of it
-sound_bare : (s : LocalState) (t : ℕ) (v : QueueState) (owed : List OwedEntry) → has_type s.model t ≡ true → IsBare v →
+pub sound_bare : (s : LocalState) (t : ℕ) (v : QueueState) (owed : List OwedEntry) → has_type s.model t ≡ true → IsBare v →
     ((i : ℕ) → times_owed owed t i ≡ 0) → ((u i : ℕ) → u ≢ t → times_owed owed u i ≡ times_owed s.owed u i) →
     IsSound s → IsSound (record (with_queue s t v) { owed = owed })
 sound_bare s t v owed has bare none others old =
@@ -170,7 +170,7 @@ sound_bare s t v owed has bare none others old =
 
 -- ---- the calls
 
-sound_format : (s : LocalState) (t : ℕ) (f : Fmt) → IsSound s → IsSound (with_set_format s t f)
+pub sound_format : (s : LocalState) (t : ℕ) (f : Fmt) → IsSound s → IsSound (with_set_format s t f)
 unfolding with_set_format_at
 sound_format s t f h =
     let m : Model = s.model in
@@ -185,7 +185,7 @@ sound_format s t f h =
       | false ↦ set_one s.queues t f h
     ]
 
-sound_queued : (s : LocalState) (t i : ℕ) (memory : Option ℕ) (used ts : ℕ) → has_type s.model t ≡ true →
+pub sound_queued : (s : LocalState) (t i : ℕ) (memory : Option ℕ) (used ts : ℕ) → has_type s.model t ≡ true →
     nat_lt i (length (queue_of s t).buffers) ≡ true → is_idle (buffer_of (queue_of s t) i).state ≡ true → IsSound s →
     IsSound (with_queued s t i memory used ts)
 unfolding queued_buffer
@@ -206,12 +206,12 @@ has_done [] p h = absurd (false≢true (sym h))
 has_done (q ∷ qs) zero h = omega arith
 has_done (q ∷ qs) (suc p) h = omega (arith, has_done qs p h)
 
-has_buffer : (qs : List QueueState) (p i : ℕ) → is_idle (get_or (get_or qs p opening_queue).buffers i no_buffer).state ≡ false → p < length qs
+pub has_buffer : (qs : List QueueState) (p i : ℕ) → is_idle (get_or (get_or qs p opening_queue).buffers i no_buffer).state ≡ false → p < length qs
 has_buffer [] p i h = absurd (false≢true (sym h))
 has_buffer (q ∷ qs) zero i h = omega arith
 has_buffer (q ∷ qs) (suc p) i h = omega (arith, has_buffer qs p i h)
 
-sound_taken_back : (s : LocalState) (t : ℕ) → is_empty (queue_of s t).done ≡ false → IsSound s → IsSound (with_queue s t (taken_back (queue_of s t)))
+pub sound_taken_back : (s : LocalState) (t : ℕ) → is_empty (queue_of s t).done ≡ false → IsSound s → IsSound (with_queue s t (taken_back (queue_of s t)))
 sound_taken_back s t some old =
     let us : List ℕ = types_of s.model in
     let p : ℕ = place_in us t in
@@ -221,7 +221,7 @@ sound_taken_back s t some old =
       places_set us s.queues s.owed s.owed t (taken_back q) old.0 within (λ i. place_taken_back q (times_owed s.owed t i) some i (old.1 t i)) (λ u i apart. refl) old.1,
     )
 
-sound_opened : (m : Model) (s : LocalState) → s.model ≡ m → s.queues ≡ map (λ (t : ℕ). opening_queue) (types_of m) → s.owed ≡ [] → IsSound s
+pub sound_opened : (m : Model) (s : LocalState) → s.model ≡ m → s.queues ≡ map (λ (t : ℕ). opening_queue) (types_of m) → s.owed ≡ [] → IsSound s
 sound_opened m s is queues owed =
     let long : length s.queues ≡ length (types_of s.model) =
     ap (λ (qs : List QueueState). length qs) queues ∙ (length-map (types_of m) (λ (t : ℕ). opening_queue) ∙ ap (λ k. length (types_of k)) (sym is)) in (
@@ -232,7 +232,7 @@ sound_opened m s is queues owed =
           rw (queues, owed) (place_bare (get_or (map (λ (u : ℕ). opening_queue) (types_of m)) (place_in (types_of s.model) t) opening_queue) 0 i bare refl),
     )
 
-sound_closed : (s : LocalState) (owed : List OwedEntry) → owed ≡ [] → IsSound s → IsSound (record s { opened = false; queues = map stopped_queue s.queues; owed = owed })
+pub sound_closed : (s : LocalState) (owed : List OwedEntry) → owed ≡ [] → IsSound s → IsSound (record s { opened = false; queues = map stopped_queue s.queues; owed = owed })
 sound_closed s owed none old = (
   length-map s.queues stopped_queue ∙ old.0,
   λ t i.
@@ -248,7 +248,7 @@ not_not false h = absurd (false≢true (sym h))
 abbrev Passes : Row → Type 0
 Passes r = first_refusal r.refusals ≡ None
 
-sound_row : (s : LocalState) (line addr : ℕ) (call : Call) → Passes (row_of s line addr call) → (row_of s line addr call).waits ≡ false → IsSound s →
+pub sound_row : (s : LocalState) (line addr : ℕ) (call : Call) → Passes (row_of s line addr call) → (row_of s line addr call).waits ≡ false → IsSound s →
     IsSound (row_of s line addr call).next
 unfolding querycap_row enumfmt_row gfmt_row tryfmt_row sfmt_row enuminput_row ginput_row sinput_row reqbufs_row querybuf_row ualloc_row qbuf_row streamon_row streamoff_row dqbuf_row mmap_row munmap_row read_row hash_row write_row fill_row subscribe_row unsubscribe_row dqevent_row with_buffers
 sound_row s line addr (OpenHandle nonblock) pass go old = sound_opened s.model (record (opening s.model) { opened = true; blocking = not nonblock }) refl refl refl
@@ -345,7 +345,7 @@ both_ready true false h = refl
 both_ready false b h = absurd (false≢true h)
 
 -- an event is no buffer
-no_sync : (s : LocalState) (t i : ℕ) → times_owed (sync_of s) t i ≡ 0
+pub no_sync : (s : LocalState) (t i : ℕ) → times_owed (sync_of s) t i ≡ 0
 no_sync s t i =
     let o : OwedEntry = record { queue = picture_queue s.model; item = Sync (target s).next_sequence } in
     elim (has_events s.model) as (λ b. times_owed (if b then o ∷ [] else []) t i ≡ 0) [
@@ -360,10 +360,10 @@ ready_at qs p ready within =
     (AllPass-from_list_all (λ q. q.streaming && not (is_empty q.queued)) qs ready p opening_queue within)
 
 -- a frame took the head of each queue, and owes these buffers
-abbrev IsFrame : LocalState → List OwedEntry → Type 0
+abbrev pub IsFrame : LocalState → List OwedEntry → Type 0
 IsFrame s entries = (t i : ℕ) → times_owed entries t i ≡ times_owed (buffers_taken s) t i
 
-sound_heads : (s : LocalState) (good : Bool) (entries : List OwedEntry) → can_finish s ≡ true → IsFrame s entries → IsSound s →
+pub sound_heads : (s : LocalState) (good : Bool) (entries : List OwedEntry) → can_finish s ≡ true → IsFrame s entries → IsSound s →
     IsSound (heads_taken s good entries)
 sound_heads s good entries ready owes old =
     let us : List ℕ = types_of s.model in
@@ -393,25 +393,25 @@ sound_heads s good entries ready owes old =
           ],
     )
 
-sound_used : (s x : LocalState) (n : ℕ) → IsSound x → IsSound (with_target_used s n x)
+pub sound_used : (s x : LocalState) (n : ℕ) → IsSound x → IsSound (with_target_used s n x)
 sound_used s x n old =
     let q : QueueState = queue_of x (picture_queue s.model) in
     sound_alike x (picture_queue s.model) (with_used q (head (target s)) n)
     (refl, refl, states_set q.buffers (head (target s)) (record (buffer_of q (head (target s))) { used = n }) refl) old
 
-sound_made : (s : LocalState) → can_finish s ≡ true → IsSound s → IsSound (frame_made s)
+pub sound_made : (s : LocalState) → can_finish s ≡ true → IsSound s → IsSound (frame_made s)
 sound_made s ready old =
     let entries : List OwedEntry = sync_of s ++ buffers_taken s in
     let owes : IsFrame s entries = λ t i. omega (arith, owed_append (sync_of s) (buffers_taken s) t i, no_sync s t i) in
     sound_used s (heads_taken s true entries) (picture_size (target s).format) (sound_heads s true entries ready owes old)
 
-sound_failed : (s : LocalState) → can_finish s ≡ true → IsSound s → IsSound (frame_failed s)
+pub sound_failed : (s : LocalState) → can_finish s ≡ true → IsSound s → IsSound (frame_failed s)
 sound_failed s ready old = sound_used s (heads_taken s false (buffers_taken s)) 0 (sound_heads s false (buffers_taken s) ready (λ t i. refl) old)
 
-at_itself : (t : ℕ) (b : Bool) → once (t == t && b) ≡ once b
+pub at_itself : (t : ℕ) (b : Bool) → once (t == t && b) ≡ once b
 at_itself t b = rw (eq-eqb t t refl) refl
 
-sound_given : (s : LocalState) (t : ℕ) (item : OwedItem) (rest : List OwedEntry) → s.owed ≡ record { queue = t; item = item } ∷ rest →
+pub sound_given : (s : LocalState) (t : ℕ) (item : OwedItem) (rest : List OwedEntry) → s.owed ≡ record { queue = t; item = item } ∷ rest →
     IsSound s → IsSound (item_given (record s { owed = rest }) t item)
 sound_given s t (OwedBuffer i) rest owed old =
     let us : List ℕ = types_of s.model in
@@ -447,7 +447,7 @@ sound_given s t (Sync frame) rest owed old =
       | false ↦ now
     ]
 
-sound_step : (s t : LocalState) (e : Entry) → IsSound s → after s e ≡ Some t → IsSound t
+pub sound_step : (s t : LocalState) (e : Entry) → IsSound s → after s e ≡ Some t → IsSound t
 unfolding called
 sound_step s t (Called line call reply) old leads =
     let r : Row = row_for s line call reply in

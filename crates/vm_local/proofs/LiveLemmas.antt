@@ -83,7 +83,7 @@ more_sound n m le qs bound h = (
 
 -- ---- elements of lists of which all are so
 
-all_at : {A : Type 0} (P : A → Type 0) (xs : List A) (i : ℕ) (d : A) → P d → All P xs → P (get_or xs i d)
+pub all_at : {A : Type 0} (P : A → Type 0) (xs : List A) (i : ℕ) (d : A) → P d → All P xs → P (get_or xs i d)
 all_at P [] i d h all = h
 all_at P (x ∷ xs) zero d h all = All-head P x xs all
 all_at P (x ∷ xs) (suc i) d h all = all_at P xs i d h (All-tail P x xs all)

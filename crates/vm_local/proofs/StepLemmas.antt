@@ -1,5 +1,5 @@
 -- What a legal entry was, told by the state that it leads to.
-use Rattle.std.proofs.Common.{◌≡◌, ◌⊎◌, inl, inr, ℕ, zero, suc, get_or, Bool, true, false, List, [], ◌∷◌, Option, Some, None, refl, sym, subst, ◌++◌, ◌&&◌, not, if◌then◌else◌}
+use Rattle.std.proofs.Common.{◌≡◌, ◌⊎◌, inl, inr, ℕ, zero, suc, get_or, Bool, true, false, List, [], ◌∷◌, Option, Some, None, refl, sym, subst, ◌∙◌, ◌++◌, ◌&&◌, not, true≢false, if◌then◌else◌}
 use Rattle.std.specs.Option.{option_and_then}
 use Rattle.std.proofs.lemmas.Option.{none-some}
 use Rattle.v4l_const.specs.declared.errno.Errno.{Errno}
@@ -16,6 +16,7 @@ use Rattle.vm_local.specs.Calls.{Row}
 use Rattle.vm_local.specs.Steps.{finished, marked_bad, given, given_from, item_given, target, with_picture, with_target_used, heads_taken, sync_of, buffers_taken}
 use Rattle.v4l_rules.specs.Refusals.{first_refusal}
 use Rattle.vm_local.specs.Log.{answered, after, replay_from}
+use Rattle.vm_local.specs.Record.{is_refusal}
 use Rattle.vm_local.proofs.KeptLemmas.{some_same}
 
 -- what `if b then Some x else None` tells
@@ -54,6 +55,23 @@ answered_by None row s reply t h =
       | true ↦ λ k. inl (sym (some_same s t s k))
       | false ↦ λ k. let w : _ = went row.waits (same_reply row.reply reply) row.next t k in inr (refl, w.0, w.1, w.2)
     ] h
+
+never_refused : (e : Errno) (reply : Reply) → is_refusal reply ≡ false → same_reply (Refused e) reply ≡ false
+never_refused e (Refused d) done = absurd (true≢false done)
+never_refused e reply done = refl
+
+-- a call that isn't refused is done as its row says
+pub done_by : (refused : Option Errno) (row : Row) (s : LocalState) (reply : Reply) (t : LocalState) → is_refusal reply ≡ false →
+    answered refused row s reply ≡ Some t → Went refused row reply t
+done_by (Some e) row s reply t done h =
+    absurd (true≢false (sym (chosen_by (same_reply (Refused e) reply) s t h).0 ∙ never_refused e reply done))
+done_by None row s reply t done h =
+    let goes : Option LocalState = if not row.waits && same_reply row.reply reply then Some row.next else None in
+    let P : Bool → Type 0 = λ g. (if row.may_lack_memory && g then Some s else goes) ≡ Some t in
+    let passed : goes ≡ Some t =
+    elim row.may_lack_memory as (λ b. (if b && false then Some s else goes) ≡ Some t → goes ≡ Some t) [ true ↦ λ k. k | false ↦ λ k. k ]
+    (subst P (never_refused Enomem reply done) h) in
+    let w : _ = went row.waits (same_reply row.reply reply) row.next t passed in (refl, w.0, w.1, w.2)
 
 -- the state after a finished frame, and after a failed one
 abbrev pub frame_made : LocalState → LocalState

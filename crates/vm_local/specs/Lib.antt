@@ -7,6 +7,7 @@ pub mod Queue
 pub mod Calls
 pub mod Steps
 pub mod Log
+pub mod Record
 pub mod Sizes
 pub mod Owner
 pub mod Opens

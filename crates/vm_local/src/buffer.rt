@@ -4,9 +4,10 @@ ghost use Rattle.vm_local.specs.Kinds.{is_idle, is_away, is_done};
 /// Where a buffer is.
 ///
 /// Source: own.
-#[derive(Clone, Copy, Debug, PartialEq, Eq)]
+#[derive(Clone, Copy, Debug, Default, PartialEq, Eq)]
 pub enum BufferState {
     /// With the guest, which may use its memory.
+    #[default]
     Idle,
     /// In the queue, for the device to take.
     Queued,
@@ -51,7 +52,7 @@ impl BufferState {
 /// One buffer of a queue.
 ///
 /// Source: after the Linux V4L2 interface, struct `v4l2_buffer`.
-#[derive(Clone, Copy, Debug, PartialEq, Eq)]
+#[derive(Clone, Copy, Debug, Default, PartialEq, Eq)]
 pub struct Buffer {
     pub state: BufferState,
     /// The length of its memory in bytes.

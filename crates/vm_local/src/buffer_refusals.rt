@@ -8,9 +8,9 @@ ghost use Rattle.v4l_rules.specs.Refusals.{first_refusal};
 
 use crate::buffer::Buffer;
 use crate::bytes::MEMORY_LIMIT;
-use crate::local::Local;
 use crate::name::Name;
 use crate::owed::Owed;
+use crate::record::Record;
 use v4l_const::{Errno, MEMORY_MMAP, MEMORY_USERPTR};
 use v4l_format::sizeimage;
 use v4l_rules::is_source;
@@ -18,11 +18,11 @@ use v4l_rules::is_source;
 /// The last place of a page.
 const PAGE_END: u32 = 4095;
 
-impl Local {
+impl Record {
     /// The refusals of `reqbufs`.
     #[tactic(auto, unfolding(crate::specs::Calls::reqbufs_row))]
     pub(crate) fn reqbufs_refusal(&self, t: u32, m: u32, n: u32) -> Option<Errno>
-        ensures { result ≡ first_refusal (reqbufs_row self.now t m n).refusals }
+        ensures { result ≡ first_refusal (reqbufs_row self.now.local t m n).refusals }
     {
         if !self.opened {
             return Some(Errno::Ebadf);
@@ -42,7 +42,7 @@ impl Local {
     /// The refusals of `querybuf`.
     #[tactic(auto, unfolding(crate::specs::Calls::querybuf_row))]
     pub(crate) fn querybuf_refusal(&self, t: u32, i: u32) -> Option<Errno>
-        ensures { result ≡ first_refusal (querybuf_row self.now t i).refusals }
+        ensures { result ≡ first_refusal (querybuf_row self.now.local t i).refusals }
     {
         if !self.opened {
             return Some(Errno::Ebadf);
@@ -59,7 +59,7 @@ impl Local {
     /// The refusals of `ualloc`.
     #[tactic(auto, unfolding(crate::specs::Calls::ualloc_row))]
     pub(crate) fn ualloc_refusal(&self, len: u32, off: u32) -> Option<Errno>
-        ensures { (line : ℕ) (u : List ℕ) → result ≡ first_refusal (ualloc_row self.now line u len off).refusals }
+        ensures { (line : ℕ) (u : List ℕ) → result ≡ first_refusal (ualloc_row self.now.local line u len off).refusals }
     {
         if !self.opened {
             return Some(Errno::Ebadf);
@@ -73,7 +73,7 @@ impl Local {
     /// The refusals of `streamon`.
     #[tactic(auto, unfolding(crate::specs::Calls::streamon_row))]
     pub(crate) fn streamon_refusal(&self, t: u32) -> Option<Errno>
-        ensures { result ≡ first_refusal (streamon_row self.now t).refusals }
+        ensures { result ≡ first_refusal (streamon_row self.now.local t).refusals }
     {
         if !self.opened {
             return Some(Errno::Ebadf);
@@ -90,7 +90,7 @@ impl Local {
     /// The refusals of `dqbuf`.
     #[tactic(auto, unfolding(crate::specs::Calls::dqbuf_row))]
     pub(crate) fn dqbuf_refusal(&self, t: u32) -> Option<Errno>
-        ensures { result ≡ first_refusal (dqbuf_row self.now t).refusals }
+        ensures { result ≡ first_refusal (dqbuf_row self.now.local t).refusals }
     {
         if !self.opened {
             return Some(Errno::Ebadf);
@@ -116,7 +116,7 @@ impl Local {
     /// The refusals of `mmap`.
     #[tactic(auto, unfolding(crate::specs::Calls::mmap_row))]
     pub(crate) fn mmap_refusal(&self, t: u32, i: u32) -> Option<Errno>
-        ensures { (addr : ℕ) (m : List ℕ) (ro : Bool) → result ≡ first_refusal (mmap_row self.now addr m t i ro).refusals }
+        ensures { (addr : ℕ) (m : List ℕ) (ro : Bool) → result ≡ first_refusal (mmap_row self.now.local addr m t i ro).refusals }
     {
         if !self.opened {
             return Some(Errno::Ebadf);
@@ -139,7 +139,7 @@ impl Local {
         user: &Option<Name>,
         used: u32,
     ) -> Option<Errno>
-        ensures { (ts : ℕ) → result ≡ first_refusal (qbuf_row self.now t i user.now used ts).refusals }
+        ensures { (ts : ℕ) → result ≡ first_refusal (qbuf_row self.now.local t i user.now used ts).refusals }
     {
         if !self.opened {
             return Some(Errno::Ebadf);
@@ -170,14 +170,14 @@ impl Local {
 
     /// Whether an entry of a queue is owed.
     fn is_owed(&self, t: u32) -> bool
-        ensures { result ≡ is_owed self.now t }
+        ensures { result ≡ is_owed self.now.local t }
     {
         has_owed(&self.owed, t)
     }
 
     /// The number of the user memory that a `qbuf` names.
     pub(crate) fn brought(&self, user: &Option<Name>) -> Option<u64>
-        ensures { result ≡ brought self.now user.now }
+        ensures { result ≡ brought self.now.local user.now }
     {
         match user {
             Some(name) => Some(self.memory_named(name)),
@@ -187,17 +187,17 @@ impl Local {
 
     /// The length that a buffer has from a `qbuf` on.
     pub(crate) fn length_from(&self, memory: Option<u64>, buffer: &Buffer) -> u32
-        ensures { result ≡ length_from self.now memory buffer.now }
+        ensures { result ≡ length_from self.now.local memory buffer.now }
     {
         match memory {
-            Some(memory) => self.bytes_len(memory),
+            Some(memory) => self.length_of(memory),
             None => buffer.length,
         }
     }
 
     /// Whether a `qbuf` names user memory that isn't bound.
     fn names_no_user(&self, user: &Option<Name>) -> bool
-        ensures { result ≡ names_no_user self.now user.now }
+        ensures { result ≡ names_no_user self.now.local user.now }
     {
         match user {
             Some(name) => !self.is_user(name),
@@ -207,7 +207,7 @@ impl Local {
 
     /// Whether a `qbuf` brings user memory of a buffer that isn't Idle.
     fn brings_used(&self, memory: Option<u64>) -> bool
-        ensures { result ≡ brings_used self.now memory }
+        ensures { result ≡ brings_used self.now.local memory }
     {
         match memory {
             Some(memory) => self.queues.use_memory(memory),

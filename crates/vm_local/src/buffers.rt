@@ -6,6 +6,18 @@ ghost use Rattle.vm_local.specs.State.{no_buffer};
 ghost use Rattle.vm_local.specs.Queue.{made_idle};
 
 use crate::buffer::{Buffer, BufferState};
+use arrayvec::ArrayVec;
+
+/// How many buffers a queue has at most.
+///
+/// Source: Linux V4L2, `VIDEO_MAX_FRAME`.
+pub const BUFFER_LIMIT: usize = 32;
+
+/// The buffers of a queue, by their indices.
+pub type Buffers = ArrayVec<Buffer, BUFFER_LIMIT>;
+
+/// Indices of buffers, each of which stands there once at most.
+pub type Indices = ArrayVec<u32, BUFFER_LIMIT>;
 
 /// What stands for a buffer that isn't there.
 pub const NO_BUFFER: Buffer = Buffer {
@@ -51,7 +63,7 @@ pub fn first_of(indices: &[u32]) -> u32
 }
 
 /// Removes the first of a list of indices, where there is one.
-pub fn remove_first(indices: &mut Vec<u32>)
+pub fn remove_first(indices: &mut Indices)
     ensures { indices.new.items ≡ drop 1 indices.old.items }
 {
     if !indices.is_empty() {
@@ -81,4 +93,11 @@ pub fn is_just(number: Option<u64>, wanted: u64) -> bool
         Some(number) => number == wanted,
         None => false,
     }
+}
+
+/// Whether one of the buffers has this memory.
+pub fn have(buffers: &[Buffer], memory: u64) -> bool
+    ensures { result ≡ list_any (λ b. is_just b.memory memory) buffers.now }
+{
+    buffers.iter().any(|buffer| is_just(buffer.memory, memory))
 }

@@ -10,9 +10,13 @@ ghost use Rattle.std.specs.Bool.{Decides};
 ghost use Rattle.vm_local.specs.Same.{same_reply};
 ghost use Rattle.vm_local.specs.declared.reply.Reply.{Reply};
 ghost use Rattle.vm_local.specs.declared.reply.Reply.TheVariants.{Done, Refused};
-ghost use Rattle.vm_local.specs.State.{LocalState};
+ghost use Rattle.vm_local.specs.State.{LocalState, queue_of};
+ghost use Rattle.vm_local.specs.Memory.{bytes_of};
 ghost use Rattle.vm_local.specs.Calls.{opened_anew, closed};
+ghost use Rattle.v4l_rules.specs.Refusals.{first_refusal};
+ghost use Rattle.vm_local.specs.Calls.{row_of};
 ghost use Rattle.vm_local.specs.Log.{called, after, replay_from};
+ghost use Rattle.vm_local.specs.Record.{without_bytes, tells_bytes, with_call, moved};
 ghost use Rattle.vm_local.specs.Replays.{EachReplay};
 ghost use Rattle.vm_local.specs.Listed.{AreListed, AreThere};
 ghost use Rattle.vm_local.specs.Live.{AreBacked, IsMade, is_live};
@@ -57,6 +61,13 @@ pub fn lists_have_each_buffer_once()
     ensures there { EachReplay (λ log s. AreThere s) }
 {}
 
+/// After a legal log a queue has at most 32 buffers, and so its lists of queued and of done buffers are no longer.
+pub fn queues_have_few_buffers()
+    ensures buffers { EachReplay (λ log s. (t : ℕ) → length (queue_of s t).buffers ≤ 32) }
+    ensures queued { EachReplay (λ log s. (t : ℕ) → length (queue_of s t).queued ≤ 32) }
+    ensures done { EachReplay (λ log s. (t : ℕ) → length (queue_of s t).done ≤ 32) }
+{}
+
 /// After a legal log each memory number that a buffer or a name has is that of one of the memories that
 /// were made, and so each live memory's is.
 pub fn live_memories_are_made()
@@ -73,4 +84,27 @@ pub fn few_events_more()
 /// Two replies are tested to be the same exactly where they are equal.
 pub fn same_replies_are_equal()
     ensures { (a b : Reply) → Decides (same_reply a b) (a ≡ b) }
+{}
+
+/// The record of a state decides calls as the state does: it has the same refusals, the same calls wait and
+/// may lack memory, and the replies are the same but for those that tell bytes. A call that no refusal stops
+/// leads to the record of the state that it leads to.
+pub fn records_decide_as_states()
+    ensures refusals { (s : LocalState) (line addr : ℕ) (call : Call) → (row_of (without_bytes s) line addr call).refusals ≡ (row_of s line addr call).refusals }
+    ensures may_lack_memory { (s : LocalState) (line addr : ℕ) (call : Call) → (row_of (without_bytes s) line addr call).may_lack_memory ≡ (row_of s line addr call).may_lack_memory }
+    ensures waits { (s : LocalState) (line addr : ℕ) (call : Call) → (row_of (without_bytes s) line addr call).waits ≡ (row_of s line addr call).waits }
+    ensures reply { (s : LocalState) (line addr : ℕ) (call : Call) → tells_bytes call ≡ false → (row_of (without_bytes s) line addr call).reply ≡ (row_of s line addr call).reply }
+    ensures next { (s : LocalState) (line addr : ℕ) (call : Call) → first_refusal (row_of s line addr call).refusals ≡ None → with_call (without_bytes s) line addr call ≡ without_bytes (row_of s line addr call).next }
+{}
+
+/// The record of a state knows how many memories were made, and how many bytes each of them has.
+pub fn records_know_lengths()
+    ensures made { (s : LocalState) → length (without_bytes s).memories ≡ length s.memories }
+    ensures bytes { (s : LocalState) (n : ℕ) → length (bytes_of (without_bytes s) n) ≡ length (bytes_of s n) }
+{}
+
+/// Where an entry is legal from a state, the record of that state moves to the record of the state that the
+/// entry leads to.
+pub fn records_move_as_states()
+    ensures { (s t : LocalState) (e : Entry) → after s e ≡ Some t → moved (without_bytes s) e ≡ without_bytes t }
 {}

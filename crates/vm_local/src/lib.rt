@@ -20,12 +20,15 @@ mod frames;
 mod fresh;
 mod laws;
 mod local;
+mod lookups;
+mod memories;
 mod name;
 mod names;
 mod owed;
 mod pictures;
 mod queue;
 mod queues;
+mod record;
 mod refusals;
 mod reply;
 mod same;
@@ -39,12 +42,14 @@ pub use call::Call;
 pub use entry::Entry;
 pub use laws::{
     few_events_more, lists_have_each_buffer_once, live_memories_are_made, no_owner_before_opening,
-    open_and_close, owners_move_at_few_entries, refusals_change_nothing, replay_of_an_append,
+    open_and_close, owners_move_at_few_entries, queues_have_few_buffers, records_decide_as_states,
+    records_know_lengths, records_move_as_states, refusals_change_nothing, replay_of_an_append,
     same_replies_are_equal,
 };
 pub use local::Local;
 pub use name::{NAME_LIMIT, Name};
 pub use owed::{Owed, OwedItem, SyncEvent};
+pub use record::Record;
 pub use reply::Reply;
 pub use small::{SMALL_LIMIT, Small};
 pub use step::local_step;

@@ -1,4 +1,4 @@
-ghost use Rattle.std.specs.Prelude.{◌≡◌, ℕ, List, ◌∷◌, [], ◌++◌, map, ◌&&◌, not, nat_lt, length, OnErr, OnOk};
+ghost use Rattle.std.specs.Prelude.{◌≡◌, ◌<◌, ℕ, List, ◌∷◌, [], ◌++◌, map, ◌&&◌, not, nat_lt, length};
 ghost use Rattle.v4l_format.specs.Fmt.{IsAdjusted};
 ghost use Rattle.vm_local.specs.Sizes.{resized};
 ghost use Rattle.vm_local.specs.State.{opening_queue, buffer_of, with_buffer};
@@ -11,25 +11,26 @@ ghost use Rattle.vm_local.specs.Steps.{taken, head, head_buffer, with_used, with
 
 use crate::bound::MemoryKind;
 use crate::buffer::{Buffer, BufferState};
-use crate::buffers::{buffer_at, first_of, lends, make_idle, remove_first, set_buffer, uses};
+use crate::buffers::{
+    Buffers, Indices, buffer_at, first_of, have, lends, make_idle, remove_first, set_buffer, uses,
+};
 use std::alloc::Global;
 use std::default::MadeWith;
 use std::marker::Model;
 use v4l_format::Fmt;
 use v4l_rules::{first_format, sized_as};
-use vm_mem::Memory;
 
-/// One queue of a handle.
+/// One queue of a handle. It takes no memory: its lists have room for all buffers.
 #[derive(Drop)]
 pub struct Queue {
     pub format: Fmt,
     pub memory: MemoryKind,
-    pub buffers: Vec<Buffer>,
+    pub buffers: Buffers,
     pub streaming: bool,
     /// The indices of the queued buffers, first in, first out.
-    pub queued: Vec<u32>,
+    pub queued: Indices,
     /// The indices of the done buffers, first in, first out.
-    pub done: Vec<u32>,
+    pub done: Indices,
     pub next_sequence: u32,
 }
 
@@ -53,23 +54,23 @@ impl Model for Queue {
 }
 
 impl MadeWith<Global> for Queue {
-    fn made_with(alloc: Global) -> Queue {
-        Queue::new(alloc)
+    fn made_with(_alloc: Global) -> Queue {
+        Queue::new()
     }
 }
 
 impl Queue {
     /// A queue as it begins.
-    pub fn new(alloc: Global) -> Queue
+    pub fn new() -> Queue
         ensures { result ≡ opening_queue }
     {
         Queue {
             format: first_format(),
             memory: MemoryKind::Mmap,
-            buffers: Vec::new(alloc),
+            buffers: Buffers::new(),
             streaming: false,
-            queued: Vec::new(alloc),
-            done: Vec::new(alloc),
+            queued: Indices::new(),
+            done: Indices::new(),
             next_sequence: 0,
         }
     }
@@ -213,7 +214,7 @@ impl Queue {
     }
 
     /// Stops the queue and gives it other buffers in the place of those that it has.
-    pub fn renew(&mut self, memory: MemoryKind, buffers: Vec<Buffer>)
+    pub fn renew(&mut self, memory: MemoryKind, buffers: Buffers)
         ensures { self.new ≡ record (stopped_queue self.old) { memory = memory; buffers = buffers.items } }
     {
         self.stop();
@@ -222,14 +223,12 @@ impl Queue {
     }
 
     /// Queues the `i`-th buffer, which becomes this one.
-    pub fn queue_buffer(&mut self, i: u32, buffer: Buffer) -> Result<(), Memory>
-        ensures ok { OnOk result (self.new ≡ record (with_buffer self.old i buffer) { queued = self.old.queued ++ i ∷ [] }) }
-        ensures err { OnErr result (self.new ≡ self.old) }
-        ensures format { self.new.format ≡ self.old.format }
+    pub fn queue_buffer(&mut self, i: u32, buffer: Buffer)
+        requires { length self.old.queued < length self.old.buffers }
+        ensures { self.new ≡ record (with_buffer self.old i buffer) { queued = self.old.queued ++ i ∷ [] } }
     {
-        self.queued.push(i)?;
         set_buffer(&mut self.buffers, i, buffer);
-        Ok(())
+        self.queued.push(i);
     }
 
     /// Starts the queue, whose frames count from 0 where it did not stream.
@@ -282,17 +281,36 @@ impl Queue {
     }
 
     /// Puts the `i`-th buffer behind the done ones.
-    pub fn give(&mut self, i: u32) -> Result<(), Memory>
-        ensures ok { OnOk result (self.new ≡ with_done self.old i) }
-        ensures err { OnErr result (self.new ≡ self.old) }
-        ensures format { self.new.format ≡ self.old.format }
+    pub fn give(&mut self, i: u32)
+        requires { length self.old.done < length self.old.buffers }
+        ensures { self.new ≡ with_done self.old i }
     {
-        self.done.push(i)?;
         let buffer = Buffer {
             state: BufferState::Done,
             ..buffer_at(&self.buffers, i)
         };
         set_buffer(&mut self.buffers, i, buffer);
-        Ok(())
+        self.done.push(i);
+    }
+
+    /// How many buffers it has.
+    pub fn buffer_count(&self) -> u32
+        ensures { result ≡ length self.now.buffers }
+    {
+        self.buffers.len() as u32
+    }
+
+    /// The kind of its buffers' memory.
+    pub fn memory_kind(&self) -> MemoryKind
+        ensures { result ≡ self.now.memory }
+    {
+        self.memory
+    }
+
+    /// Whether one of its buffers has this memory, which the device made.
+    pub fn owns(&self, memory: u64) -> bool
+        ensures { result ≡ (not (is_user_ptr self.now.memory) && list_any (λ b. is_just b.memory memory) self.now.buffers) }
+    {
+        !self.is_user_ptr() && have(&self.buffers, memory)
     }
 }

@@ -1,22 +1,22 @@
-ghost use Rattle.std.specs.Prelude.{◌≡◌, ◌<◌, ℕ, List, ◌∷◌, [], ◌++◌, length, map, slice_set, slice_index_or, replicate, ◌≤◌, OnErr, OnOk, not, ◌&&◌};
+ghost use Rattle.std.specs.Prelude.{◌≡◌, ◌<◌, ℕ, List, ◌∷◌, [], ◌++◌, length, map, slice_set, slice_index_or, replicate, ◌≤◌, not, ◌&&◌};
 ghost use Rattle.std.specs.List.{list_any, list_all};
 ghost use Rattle.v4l_const.specs.Model.{queues as types_of};
 ghost use Rattle.v4l_format.specs.Fmt.{IsAdjusted};
 ghost use Rattle.vm_local.specs.Sizes.{resized};
 ghost use Rattle.vm_local.specs.State.{QueueState, opening_queue, with_buffer};
-ghost use Rattle.vm_local.specs.Queue.{stopped_queue, started, taken_back, is_empty};
+ghost use Rattle.vm_local.specs.Queue.{stopped_queue, started, taken_back, is_empty, is_user_ptr};
 ghost use Rattle.vm_local.specs.Memory.{is_just};
 ghost use Rattle.vm_local.specs.Kinds.{is_away, is_idle};
-ghost use Rattle.vm_local.specs.Steps.{taken, with_used, with_done};
+ghost use Rattle.vm_local.specs.Steps.{head, taken, with_used, with_done};
 
 use crate::bound::MemoryKind;
 use crate::buffer::Buffer;
+use crate::buffers::Buffers;
 use crate::queue::Queue;
 use arrayvec::ArrayVec;
 use std::alloc::Global;
 use std::marker::Model;
 use v4l_format::Fmt;
-use vm_mem::Memory;
 
 /// How many queues a model has at most.
 const QUEUE_LIMIT: usize = 2;
@@ -73,6 +73,18 @@ impl Queues {
         &self.kept.as_slice()[place]
     }
 
+    /// The index of the buffer that the next frame takes from the queue at a place, 0 where there is no queue.
+    #[tactic(auto, using(std::proofs::lemmas::List::get_or_past))]
+    pub fn head_at(&self, place: usize) -> u32
+        ensures { result ≡ head (slice_index_or self.now place opening_queue) }
+    {
+        if place < self.len() {
+            self.at(place).head()
+        } else {
+            0
+        }
+    }
+
     /// The formats of two queues, which have one size.
     pub fn formats(&self, first: usize, second: usize) -> (Fmt, Fmt)
         requires first { first < length self.now }
@@ -99,7 +111,7 @@ impl Queues {
     }
 
     /// Stops a queue and gives it other buffers.
-    pub fn renew(&mut self, place: usize, memory: MemoryKind, buffers: Vec<Buffer>)
+    pub fn renew(&mut self, place: usize, memory: MemoryKind, buffers: Buffers)
         requires { place < length self.old }
         ensures { self.new ≡ slice_set self.old place (record (stopped_queue (slice_index_or self.old place opening_queue)) { memory = memory; buffers = buffers.items }) }
     {
@@ -108,13 +120,13 @@ impl Queues {
     }
 
     /// Queues a buffer, which becomes this one.
-    pub fn queue_buffer(&mut self, place: usize, i: u32, buffer: Buffer) -> Result<(), Memory>
-        requires { place < length self.old }
-        ensures ok { OnOk result (self.new ≡ slice_set self.old place (record (with_buffer (slice_index_or self.old place opening_queue) i buffer) { queued = (slice_index_or self.old place opening_queue).queued ++ i ∷ [] })) }
-        ensures err { OnErr result (self.new ≡ self.old) }
+    pub fn queue_buffer(&mut self, place: usize, i: u32, buffer: Buffer)
+        requires place { place < length self.old }
+        requires room { length (slice_index_or self.old place opening_queue).queued < length (slice_index_or self.old place opening_queue).buffers }
+        ensures { self.new ≡ slice_set self.old place (record (with_buffer (slice_index_or self.old place opening_queue) i buffer) { queued = (slice_index_or self.old place opening_queue).queued ++ i ∷ [] }) }
     {
         let queue = &mut self.kept.as_mut_slice()[place];
-        queue.queue_buffer(i, buffer)
+        queue.queue_buffer(i, buffer);
     }
 
     /// Starts a queue.
@@ -135,23 +147,25 @@ impl Queues {
         queue.take_back();
     }
 
-    /// Sets how many bytes of a queue's buffer are in use.
+    /// Sets how many bytes of a queue's buffer are in use, where there is a queue at this place.
+    #[tactic(auto, using(std::proofs::lemmas::List::set_past))]
     pub fn set_used(&mut self, place: usize, i: u32, used: u32)
-        requires { place < length self.old }
         ensures { self.new ≡ slice_set self.old place (with_used (slice_index_or self.old place opening_queue) i used) }
     {
-        let queue = &mut self.kept.as_mut_slice()[place];
-        queue.set_used(i, used);
+        if place < self.kept.len() {
+            let queue = &mut self.kept.as_mut_slice()[place];
+            queue.set_used(i, used);
+        }
     }
 
     /// Puts a buffer behind the done ones of its queue.
-    pub fn give(&mut self, place: usize, i: u32) -> Result<(), Memory>
-        requires { place < length self.old }
-        ensures ok { OnOk result (self.new ≡ slice_set self.old place (with_done (slice_index_or self.old place opening_queue) i)) }
-        ensures err { OnErr result (self.new ≡ self.old) }
+    pub fn give(&mut self, place: usize, i: u32)
+        requires place { place < length self.old }
+        requires room { length (slice_index_or self.old place opening_queue).done < length (slice_index_or self.old place opening_queue).buffers }
+        ensures { self.new ≡ slice_set self.old place (with_done (slice_index_or self.old place opening_queue) i) }
     {
         let queue = &mut self.kept.as_mut_slice()[place];
-        queue.give(i)
+        queue.give(i);
     }
 
     /// Stops all queues.
@@ -202,6 +216,13 @@ impl Queues {
     {
         use_memory(self.kept.as_slice(), memory)
     }
+
+    /// Whether the device made the memory for one of their buffers.
+    pub fn own(&self, memory: u64) -> bool
+        ensures { result ≡ list_any (λ q. not (is_user_ptr q.memory) && list_any (λ b. is_just b.memory memory) q.buffers) self.now }
+    {
+        own(self.kept.as_slice(), memory)
+    }
 }
 
 /// As many queues as they begin.
@@ -211,7 +232,7 @@ fn begun(alloc: Global, count: usize) -> ArrayVec<Queue, QUEUE_LIMIT, Global>
 {
     let mut queues = ArrayVec::new_in(alloc);
     for _k in 0..count {
-        queues.push(Queue::new(alloc));
+        queues.push(Queue::new());
     }
     queues
 }
@@ -281,4 +302,10 @@ fn use_memory(queues: &[Queue], memory: u64) -> bool
     ensures { result ≡ list_any (λ q. list_any (λ b. is_just b.memory memory && not (is_idle b.state)) q.buffers) queues.now }
 {
     queues.iter().any(|queue| queue.uses(memory))
+}
+
+fn own(queues: &[Queue], memory: u64) -> bool
+    ensures { result ≡ list_any (λ q. not (is_user_ptr q.memory) && list_any (λ b. is_just b.memory memory) q.buffers) queues.now }
+{
+    queues.iter().any(|queue| queue.owns(memory))
 }

@@ -1,10 +1,11 @@
 ghost use Rattle.std.specs.Prelude.{◌≡◌};
 ghost use Rattle.vm_local.specs.declared.reply.Reply.TheVariants.{Bytes, Mapped};
 ghost use Rattle.vm_local.specs.Same.{same_reply, address_in};
+ghost use Rattle.vm_local.specs.Record.{is_refusal};
 
 use crate::reply::Reply;
 
-/// Comparisons of replies.
+/// What a reply is.
 impl Reply {
     /// Whether the two are the same.
     #[tactic(auto, using(crate::proofs::SameLemmas::derived_same))]
@@ -22,6 +23,13 @@ impl Reply {
             Reply::Bytes(other) => bytes == other.as_bytes(),
             _ => false,
         }
+    }
+
+    /// Whether the call was refused.
+    pub fn is_refusal(&self) -> bool
+        ensures { result ≡ is_refusal self.now }
+    {
+        matches!(self, Reply::Refused(_))
     }
 
     /// The address of a mapping, 0 where it is none.

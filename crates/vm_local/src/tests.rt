@@ -11,6 +11,7 @@ mod capture;
 mod convert;
 mod failed;
 mod forms;
+mod record;
 
 const CAP: u32 = BUF_TYPE_CAPTURE;
 
