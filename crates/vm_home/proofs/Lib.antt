@@ -1,0 +1,16 @@
+pub mod ToComeLemmas
+pub mod PlaceLemmas
+pub mod RowLemmas
+pub mod OwnLemmas
+pub mod FactLemmas
+pub mod StillLemmas
+pub mod MoveLemmas
+pub mod DeviceLemmas
+pub mod StepLemmas
+pub mod PayloadLemmas
+pub mod StopLemmas
+pub mod ComeLemmas
+pub mod DqBufLemmas
+pub mod KeptLemmas
+pub mod LawLemmas
+pub mod ReplyLemmas
