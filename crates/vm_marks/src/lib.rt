@@ -1,0 +1,10 @@
+//! Marks: which of the numbers below a count are marked, and the marked ones in order, so that
+//! nobody has to scan all numbers for them.
+#![tactic(auto)]
+
+mod marks;
+
+pub use marks::Marks;
+
+#[cfg(test)]
+mod tests;
