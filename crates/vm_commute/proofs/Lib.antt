@@ -1,0 +1,12 @@
+pub mod PlaceLemmas
+pub mod EventsLemmas
+pub mod OutlineLemmas
+pub mod ReachedLemmas
+pub mod LoadedLemmas
+pub mod KeptLemmas
+pub mod AnswerLemmas
+pub mod FollowLemmas
+pub mod QueuedLemmas
+pub mod QbufLemmas
+pub mod CallLemmas
+pub mod OrderLemmas
