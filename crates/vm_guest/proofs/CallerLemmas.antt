@@ -6,7 +6,7 @@ use Rattle.std.proofs.lemmas.Bool.{cases_eq, ne_eqb}
 use Rattle.std.proofs.lemmas.List.{length-set, get_or-set_same, get_or-set_other, length-append}
 use Rattle.v4l_const.specs.declared.model.Model.{Model}
 use Rattle.vm_local.specs.declared.call.Call.{Call}
-use Rattle.vm_local.specs.declared.call.Call.TheVariants.{OpenHandle, CloseHandle, QueryCap, EnumFmt, GFmt, TryFmt, SFmt, EnumInput, GInput, SInput}
+use Rattle.vm_local.specs.declared.call.Call.TheVariants.{OpenHandle, CloseHandle, QueryCap, EnumFmt, GFmt, TryFmt, SFmt, EnumInput, GInput, SInput, QBuf}
 use Rattle.vm_local.specs.State.{LocalState}
 use Rattle.vm_local.specs.declared.reply.Reply.{Reply}
 use Rattle.vm_link.specs.Parcel.{IsPostable}
@@ -179,6 +179,8 @@ can_start m lines p a orderly is =
     usual_way id s (EnumInput i) built = by_open s.opened _
     usual_way id s GInput built = by_open s.opened _
     usual_way id s (SInput i) built = by_open s.opened _
+    usual_way id s (QBuf t i None used ts) built = absurd built
+    usual_way id s (QBuf t i (Some user) used ts) built = absurd built
     usual_way id s call built = absurd built
 
 -- ---- a reply is logged

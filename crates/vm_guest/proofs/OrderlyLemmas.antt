@@ -5,7 +5,7 @@ use Rattle.std.proofs.lemmas.List.{length-append, length-set, get_or-set_same, g
 use Rattle.v4l_const.specs.declared.model.Model.{Model}
 use Rattle.v4l_const.specs.declared.errno.Errno.TheVariants.{Ebadf}
 use Rattle.vm_local.specs.declared.call.Call.{Call}
-use Rattle.vm_local.specs.declared.call.Call.TheVariants.{OpenHandle, CloseHandle, QueryCap, EnumFmt, GFmt, TryFmt, SFmt, EnumInput, GInput, SInput}
+use Rattle.vm_local.specs.declared.call.Call.TheVariants.{OpenHandle, CloseHandle, QueryCap, EnumFmt, GFmt, TryFmt, SFmt, EnumInput, GInput, SInput, QBuf}
 use Rattle.vm_local.specs.declared.entry.Entry.{Entry}
 use Rattle.vm_local.specs.declared.entry.Entry.TheVariants.{Called}
 use Rattle.vm_local.specs.declared.reply.Reply.{Reply}
@@ -244,6 +244,8 @@ here_is id s (SFmt t f w h) built none = not_some s.opened _ none
 here_is id s (EnumInput i) built none = not_some s.opened _ none
 here_is id s GInput built none = not_some s.opened _ none
 here_is id s (SInput i) built none = not_some s.opened _ none
+here_is id s (QBuf t i None used ts) built none = absurd built
+here_is id s (QBuf t i (Some user) used ts) built none = absurd built
 here_is id s call built none = absurd built
 
 -- a call that is built touches no memory's bytes
@@ -258,6 +260,8 @@ built_untouched (SFmt t f w h) built = refl
 built_untouched (EnumInput i) built = refl
 built_untouched GInput built = refl
 built_untouched (SInput i) built = refl
+built_untouched (QBuf t i None used ts) built = absurd built
+built_untouched (QBuf t i (Some user) used ts) built = absurd built
 built_untouched call built = absurd built
 
 -- the fields of a handle keep its log

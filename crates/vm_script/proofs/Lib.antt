@@ -1,7 +1,13 @@
+pub mod ByteLemmas
+pub mod CallLemmas
+pub mod CountLemmas
+pub mod DraftLemmas
 pub mod FormLemmas
 pub mod LineLemmas
 pub mod NameLemmas
 pub mod NumberLemmas
+pub mod PlaceLemmas
+pub mod QueueLemmas
 pub mod ReaderLemmas
 pub mod ScriptLemmas
 pub mod StatementLemmas

@@ -1,6 +1,7 @@
 -- What one line does to a process.
 use Rattle.std.proofs.Common.{◌≡◌, ℕ, ◌+◌, ◌<◌, ◌≤◌, ◌++◌, Bool, true, false, Option, Some, None, Result, Ok, Err, List, [], ◌∷◌, if◌then◌else◌, length, drop, get_or, length-append, refl, ap, sym, ◌∙◌, subst, arith}
 use Rattle.std.specs.Prelude.{nat_le}
+use Rattle.std.specs.List.{join_with_byte}
 use Rattle.std.proofs.lemmas.List.{drop_more, drop_all}
 use Rattle.std.proofs.lemmas.Bool.Decides.{nat_tests}
 use Rattle.v4l_const.specs.declared.model.Model.TheVariants.{Capture}
@@ -8,33 +9,39 @@ use Rattle.vm_script.specs.declared.fault.ScriptError.{ScriptError}
 use Rattle.vm_script.specs.declared.fault.ScriptError.TheVariants.{Fault, Memory}
 use Rattle.vm_script.specs.declared.fault.ScriptFault.{ScriptFault}
 use Rattle.vm_script.specs.declared.fault.ScriptKind.{ScriptKind}
-use Rattle.vm_script.specs.declared.fault.ScriptKind.TheVariants.{TooManyLines}
-use Rattle.vm_script.specs.declared.forms.Statement.{Statement}
+use Rattle.vm_script.specs.declared.fault.ScriptKind.TheVariants.{TooManyLines, NotBuilt}
+use Rattle.vm_script.specs.declared.statement.Statement.{Statement}
 use Rattle.vm_script.specs.Words.{lines_in, words_in, is_skipped}
-use Rattle.vm_script.specs.Statements.{and_then, statement_in}
-use Rattle.vm_script.specs.Grammar.{place_from, declares, handle_by, handle_for, with_statement, with_words, at_line, with_line, with_lines, no_lines, as_script, script_of}
+use Rattle.vm_script.specs.Memory.{mention, mention_check, memories_of}
+use Rattle.vm_script.specs.Names.{place_from}
+use Rattle.vm_script.specs.Places.{and_then}
+use Rattle.vm_script.specs.Statements.{statement_in, built_statement_in}
+use Rattle.vm_script.specs.Verbs.{is_built_line}
+use Rattle.vm_script.specs.Grammar.{declares, handle_by, handle_of, handle_for, with_statement, with_asked, with_words, with_built_words, at_line, with_line, with_lines, no_lines, as_script, script_of}
 use Rattle.vm_script.specs.Script.{ProcessLines}
 use Rattle.vm_script.specs.Reading.{Becomes, Gives}
 
 -- what makes P of the process that a line gives: P of it with each statement that the words may be
 abbrev pub Steps : (ProcessLines → Type 0) → ProcessLines → ℕ → List (List ℕ) → Type 0
-Steps P p number words = (s : Statement) (h : ℕ) → statement_in words ≡ Ok s → handle_for p s ≡ Ok h → P (with_statement p number words s h)
+Steps P p number words = (s : Statement) (h : ℕ) → built_statement_in words ≡ Ok s → handle_for p s ≡ Ok h → P (with_statement p number (join_with_byte 32 words) s h)
 
-abbrev placing : Statement → Result ℕ ScriptKind → Result (Statement × ℕ) ScriptKind
-placing s r = and_then r (λ h. Ok (s, h))
+handle_step : (P : ProcessLines → Type 0) (p q : ProcessLines) (number : ℕ) (echo : List ℕ) (s : Statement) → ((h : ℕ) → handle_for p s ≡ Ok h → P (with_statement p number echo s h)) → (r : Result ℕ ScriptKind) → handle_for p s ≡ r
+    → at_line number (and_then r (λ h. Ok (with_statement p number echo s h))) ≡ Ok q → P q
+handle_step P p q number echo s steps (Ok h) f g = subst P (cc) (steps h f)
+handle_step P p q number echo s steps (Err kind) f g = absurd (cc)
 
-abbrev giving : ProcessLines → ℕ → List (List ℕ) → Result (Statement × ℕ) ScriptKind → Result ProcessLines ScriptFault
-giving p number words r = at_line number (and_then r (λ placed. Ok (with_statement p number words placed.0 placed.1)))
-
-handle_step : (P : ProcessLines → Type 0) (p q : ProcessLines) (number : ℕ) (words : List (List ℕ)) (s : Statement) → statement_in words ≡ Ok s → Steps P p number words → (r : Result ℕ ScriptKind) → handle_for p s ≡ r
-    → giving p number words (placing s r) ≡ Ok q → P q
-handle_step P p q number words s e steps (Ok h) f g = subst P (cc) (steps s h e f)
-handle_step P p q number words s e steps (Err kind) f g = absurd (cc)
-
-words_step : (P : ProcessLines → Type 0) (p q : ProcessLines) (number : ℕ) (words : List (List ℕ)) → Steps P p number words → (r : Result Statement ScriptKind) → statement_in words ≡ r
-    → giving p number words (and_then r (λ s. placing s (handle_for p s))) ≡ Ok q → P q
-words_step P p q number words steps (Ok s) e g = handle_step P p q number words s e steps (handle_for p s) refl g
+words_step : (P : ProcessLines → Type 0) (p q : ProcessLines) (number : ℕ) (words : List (List ℕ)) → ((s : Statement) (h : ℕ) → statement_in words ≡ Ok s → handle_for p s ≡ Ok h → P (with_statement p number (join_with_byte 32 words) s h))
+    → (r : Result Statement ScriptKind) → statement_in words ≡ r → at_line number (and_then r (λ s. with_asked p number (join_with_byte 32 words) s)) ≡ Ok q → P q
+words_step P p q number words steps (Ok s) e g = handle_step P p q number (join_with_byte 32 words) s (λ h. steps s h e) (handle_for p s) refl g
 words_step P p q number words steps (Err kind) e g = absurd (cc)
+
+built_in : (words : List (List ℕ)) (s : Statement) → is_built_line words ≡ true → statement_in words ≡ Ok s → built_statement_in words ≡ Ok s
+built_in words s built e = rw built e
+
+built_step : (P : ProcessLines → Type 0) (p q : ProcessLines) (number : ℕ) (words : List (List ℕ)) → Steps P p number words → (built : Bool) → is_built_line words ≡ built
+    → at_line number (if built then with_words p number words else Err NotBuilt) ≡ Ok q → P q
+built_step P p q number words steps true e g = words_step P p q number words (λ s h asks. steps s h (built_in words s e asks)) (statement_in words) refl g
+built_step P p q number words steps false e g = absurd (cc)
 
 line_step : (P : ProcessLines → Type 0) (p q : ProcessLines) (r : Result ProcessLines ScriptFault) → P p → (r ≡ Ok q → P q) → (skipped : Bool) → (if skipped then Ok p else r) ≡ Ok q → P q
 line_step P p q r h k true g = subst P (cc) h
@@ -42,25 +49,42 @@ line_step P p q r h k false g = k g
 
 -- the process after a line that is read has P
 pub with_line_has : (P : ProcessLines → Type 0) (p q : ProcessLines) (number : ℕ) (line : List ℕ) → P p → Steps P p number (words_in line) → with_line p number line ≡ Ok q → P q
-with_line_has P p q number line h steps g = line_step P p q (at_line number (with_words p number (words_in line))) h (words_step P p q number (words_in line) steps (statement_in (words_in line)) refl) (is_skipped line) g
+with_line_has P p q number line h steps g =
+    line_step P p q (at_line number (with_built_words p number (words_in line))) h (built_step P p q number (words_in line) steps (is_built_line (words_in line)) refl) (is_skipped line) g
 
 -- ---- the handle of a statement
 
-by_place : (A : Type 0) (next h : ℕ) (declared : Bool) (place : Option ℕ) → handle_by next declared place ≡ Ok h → (declared ≡ true → h ≡ next → A) → (declared ≡ false → place ≡ Some h → A) → A
+-- what is known of a statement on a handle: there is room for its line, its name of memory fits those before it, and the
+-- handle is the next one or one of a name that is declared
+pub record IsOn (p : ProcessLines) (s : Statement) (h : ℕ) : Type 0 where
+  pub few : length p.lines < 1024
+  pub place : handle_by (length p.handles) (declares s.call) (place_from 0 s.handle p.handles) ≡ Ok h
+  pub memory : mention_check (mention s.call) (memories_of h p.lines) ≡ Ok tt
+
+on_checked : (p : ProcessLines) (s : Statement) (k h : ℕ) → length p.lines < 1024 → handle_by (length p.handles) (declares s.call) (place_from 0 s.handle p.handles) ≡ Ok k
+    → (check : Result (Unit {0}) ScriptKind) → mention_check (mention s.call) (memories_of k p.lines) ≡ check → and_then check (λ fine. Ok k) ≡ Ok h → IsOn p s h
+on_checked p s k h few e (Ok tt) m g =
+    let same : k ≡ h = cc in
+    subst (IsOn p s) same (record { few = few; place = e; memory = m })
+on_checked p s k h few e (Err kind) m g = absurd (cc)
+
+on_placed : (p : ProcessLines) (s : Statement) (h : ℕ) → length p.lines < 1024 → (r : Result ℕ ScriptKind) → handle_by (length p.handles) (declares s.call) (place_from 0 s.handle p.handles) ≡ r
+    → and_then r (λ k. and_then (mention_check (mention s.call) (memories_of k p.lines)) (λ fine. Ok k)) ≡ Ok h → IsOn p s h
+on_placed p s h few (Ok k) e g = on_checked p s k h few e (mention_check (mention s.call) (memories_of k p.lines)) refl g
+on_placed p s h few (Err kind) e g = absurd (cc)
+
+on_limited : (p : ProcessLines) (s : Statement) (h : ℕ) (full : Bool) → nat_le 1024 (length p.lines) ≡ full → (if full then Err TooManyLines else handle_of p s) ≡ Ok h → IsOn p s h
+on_limited p s h true e g = absurd (cc)
+on_limited p s h false e g = on_placed p s h (grind (arith, nat_tests)) (handle_by (length p.handles) (declares s.call) (place_from 0 s.handle p.handles)) refl g
+
+pub is_on : (p : ProcessLines) (s : Statement) (h : ℕ) → handle_for p s ≡ Ok h → IsOn p s h
+is_on p s h g = on_limited p s h (nat_le 1024 (length p.lines)) refl g
+
+pub by_place : (A : Type 0) (next h : ℕ) (declared : Bool) (place : Option ℕ) → handle_by next declared place ≡ Ok h → (declared ≡ true → h ≡ next → A) → (declared ≡ false → place ≡ Some h → A) → A
 by_place A next h true None e new known = new refl (cc)
 by_place A next h true (Some k) e new known = absurd (cc)
 by_place A next h false None e new known = absurd (cc)
 by_place A next h false (Some k) e new known = known refl (ap Some (cc))
-
-by_limit : (A : Type 0) (p : ProcessLines) (s : Statement) (h : ℕ) (full : Bool) → nat_le 1024 (length p.lines) ≡ full → (if full then Err TooManyLines else handle_by (length p.handles) (declares s.call) (place_from 0 s.handle p.handles)) ≡ Ok h
-    → (length p.lines < 1024 → handle_by (length p.handles) (declares s.call) (place_from 0 s.handle p.handles) ≡ Ok h → A) → A
-by_limit A p s h true e g k = absurd (cc)
-by_limit A p s h false e g k = k (grind (arith, nat_tests)) g
-
--- a statement's line is one more than there may be at most, and its handle is the next one or one of a name that is declared
-pub handle_cases : (A : Type 0) (p : ProcessLines) (s : Statement) (h : ℕ) → handle_for p s ≡ Ok h
-    → (length p.lines < 1024 → declares s.call ≡ true → h ≡ length p.handles → A) → (length p.lines < 1024 → declares s.call ≡ false → place_from 0 s.handle p.handles ≡ Some h → A) → A
-handle_cases A p s h e new known = by_limit A p s h (nat_le 1024 (length p.lines)) refl e (λ few g. by_place A (length p.handles) h (declares s.call) (place_from 0 s.handle p.handles) g (new few) (known few))
 
 -- ---- the lines of a script, one after the other
 
@@ -69,15 +93,6 @@ with_lines_ok p q number line lines e = rw e refl
 
 pub with_lines_err : (p : ProcessLines) (f : ScriptFault) (number : ℕ) (line : List ℕ) (lines : List (List ℕ)) → with_line p number line ≡ Err f → with_lines p number (line ∷ lines) ≡ Err f
 with_lines_err p f number line lines e = rw e refl
-
-few_more : (names : List (List ℕ)) (name : List ℕ) (declared : Bool) (n m : ℕ) → length names ≤ n → m ≡ n + 1 → length (if declared then names ++ name ∷ [] else names) ≤ m
-few_more names name true n m h e = simp length-append (omega arith)
-few_more names name false n m h e = omega arith
-
--- there are no more handles than lines
-pub with_line_fits : (p q : ProcessLines) (number : ℕ) (line : List ℕ) → length p.handles ≤ length p.lines → with_line p number line ≡ Ok q → length q.handles ≤ length q.lines
-with_line_fits p q number line h e =
-    with_line_has (λ r. length r.handles ≤ length r.lines) p q number line h (λ s k asks on. few_more p.handles s.handle (declares s.call) (length p.lines) _ h (length-append p.lines _)) e
 
 -- one line more is read
 pub reads_more : (p q : ProcessLines) (n : ℕ) (lines : List (List ℕ)) (line : List ℕ) (all : Result ProcessLines ScriptFault) → n < length lines → line ≡ get_or lines n line → with_line p (n + 1) line ≡ Ok q → with_lines p (n + 1) (drop n lines) ≡ all → with_lines q (n + 1 + 1) (drop (n + 1) lines) ≡ all

@@ -11,9 +11,29 @@ use Rattle.std.proofs.lemmas.List.{length-replicate}
 use Rattle.std.proofs.lemmas.Nat.{le_bytes_8}
 use Rattle.std.proofs.lemmas.Map.Lookups.{CmpEqualImpliesEq, exact_pairs, exact_unsigned}
 use Rattle.std.proofs.lemmas.Slice.Eq.{bytes_eq-Decides}
-use Rattle.vm_script.specs.Grammar.{place_from}
-use Rattle.vm_script.specs.Names.{IsShort, key_of, key_cmp, FindsPlaces}
-use Rattle.vm_script.proofs.ScriptLemmas.{place_within}
+use Rattle.vm_script.specs.Names.{place_from, IsShort, key_of, key_cmp, FindsPlaces}
+
+-- ---- the place of a name is that of the name
+
+abbrev IsFound : List ℕ → ℕ → List (List ℕ) → ℕ → Type 0
+IsFound word at names h = (k : ℕ) × (h ≡ at + k) × (k < length names) × (get_or names k [] ≡ word)
+
+found_more : (word : List ℕ) (at : ℕ) (name : List ℕ) (names : List (List ℕ)) (h : ℕ) → IsFound word (at + 1) names h → IsFound word at (name ∷ names) h
+found_more word at name names h f = (suc f.0, (let e : h ≡ at + 1 + f.0 = f.1 in omega arith), (let l : f.0 < length names = f.2 in omega arith), f.3)
+
+found_cons : (word : List ℕ) (at : ℕ) (name : List ℕ) (names : List (List ℕ)) (h : ℕ) → (test : Bool) → bytes_eq name word ≡ test → (place_from (at + 1) word names ≡ Some h → IsFound word (at + 1) names h) → (if test then Some at else place_from (at + 1) word names) ≡ Some h → IsFound word at (name ∷ names) h
+found_cons word at name names h true e more g = (0, (let s : at ≡ h = cc in omega arith), omega arith, (bytes_eq-Decides name word).0 e)
+found_cons word at name names h false e more g = found_more word at name names h (more g)
+
+found_from : (word : List ℕ) (at : ℕ) (names : List (List ℕ)) (h : ℕ) → place_from at word names ≡ Some h → IsFound word at names h
+found_from word at [] h g = absurd (cc)
+found_from word at (name ∷ names) h g = found_cons word at name names h (bytes_eq name word) refl (found_from word (at + 1) names h) g
+
+pub place_within : (word : List ℕ) (names : List (List ℕ)) (h : ℕ) → place_from 0 word names ≡ Some h → h < length names
+place_within word names h g = let f : IsFound word 0 names h = found_from word 0 names h g in let e : h ≡ 0 + f.0 = f.1 in let l : f.0 < length names = f.2 in omega arith
+
+pub place_name : (word : List ℕ) (names : List (List ℕ)) (h : ℕ) → place_from 0 word names ≡ Some h → get_or names h [] ≡ word
+place_name word names h g = let f : IsFound word 0 names h = found_from word 0 names h g in let e : h ≡ f.0 = (let s : h ≡ 0 + f.0 = f.1 in omega arith) in ap (λ i. get_or names i []) e ∙ f.3
 
 -- ---- different names have different keys
 

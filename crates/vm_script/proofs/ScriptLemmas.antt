@@ -1,8 +1,8 @@
 -- What a script that was read has.
-use Rattle.std.proofs.Common.{◌≡◌, ℕ, zero, suc, ◌+◌, ◌<◌, ◌≤◌, Bool, true, false, Some, None, Result, Ok, Err, List, [], ◌∷◌, ◌++◌, if◌then◌else◌, length, take, get_or, ◌==◌, refl, ap, sym, ◌∙◌, subst, arith, length-append}
+use Rattle.std.proofs.Common.{◌≡◌, ℕ, zero, suc, ◌+◌, ◌<◌, ◌≤◌, Bool, true, false, Some, None, Result, Ok, Err, List, [], ◌∷◌, ◌++◌, if◌then◌else◌, length, take, get_or, ◌==◌, refl, ap, sym, ◌∙◌, subst, arith, length-append, append_assoc}
 use Rattle.std.specs.Str.{bytes_eq}
 use Rattle.std.specs.List.{join_with_byte}
-use Rattle.std.proofs.lemmas.List.{get_or_append_left}
+use Rattle.std.proofs.lemmas.List.{append-nil, get_or_append_left}
 use Rattle.std.proofs.lemmas.Bool.Decides.{nat_tests}
 use Rattle.std.proofs.lemmas.List.Elements.{All-push, All-weaker, All-nil}
 use Rattle.std.proofs.lemmas.Slice.Eq.{bytes_eq-Decides}
@@ -10,47 +10,28 @@ use Rattle.v4l_const.specs.declared.model.Model.TheVariants.{Capture}
 use Rattle.vm_local.specs.declared.call.Call.{Call}
 use Rattle.vm_local.specs.declared.call.Call.TheVariants.{OpenHandle}
 use Rattle.vm_script.specs.declared.fault.ScriptFault.{ScriptFault}
-use Rattle.vm_script.specs.declared.forms.Statement.{Statement}
+use Rattle.vm_script.specs.declared.statement.Statement.{Statement}
 use Rattle.vm_script.specs.declared.line.Line.{Line}
 use Rattle.vm_script.specs.declared.line.LineKind.{LineKind}
 use Rattle.vm_script.specs.declared.line.LineKind.TheVariants.{OnHandle, Raw}
 use Rattle.vm_script.specs.Words.{lines_in, words_in}
-use Rattle.vm_script.specs.Statements.{statement_in, is_statement, reads_as}
-use Rattle.vm_script.specs.Grammar.{place_from, declares, handle_for, with_statement, with_line, with_lines, no_lines, as_script, script_of}
+use Rattle.vm_script.specs.Memory.{mention, mention_check, memories_of}
+use Rattle.vm_script.specs.Names.{place_from}
+use Rattle.vm_script.specs.Statements.{built_statement_in, is_statement, reads_as}
+use Rattle.vm_script.specs.Grammar.{declares, handle_for, with_statement, with_line, with_lines, no_lines, as_script, script_of}
 use Rattle.vm_script.specs.Lines.{lines_of, call_on}
 use Rattle.vm_script.specs.Script.{ProcessLines, ScriptLines}
-use Rattle.vm_script.specs.Reading.{IsBuilt, IsReadCall, IsReadKind, IsReadLine, IsReadProcess, Fits, InOrder, opens, opens_in}
-use Rattle.vm_script.proofs.LineLemmas.{with_line_has, handle_cases, with_lines_ok, with_lines_err}
+use Rattle.vm_script.specs.Reading.{IsBuilt, IsReadCall, IsReadKind, IsReadLine, IsReadProcess, Fits, InOrder, FitsNames, DeclareInOrder, opens, opens_in}
+use Rattle.vm_script.proofs.LineLemmas.{with_line_has, IsOn, is_on, by_place, with_lines_ok, with_lines_err}
+use Rattle.vm_script.proofs.NameLemmas.{place_within, place_name}
 use Rattle.vm_script.proofs.StatementLemmas.{statement_built, statement_is}
 use Rattle.vm_script.proofs.WordLemmas.{echo_words}
-
--- ---- the place of a name is that of the name
-
-abbrev IsFound : List ℕ → ℕ → List (List ℕ) → ℕ → Type 0
-IsFound word at names h = (k : ℕ) × (h ≡ at + k) × (k < length names) × (get_or names k [] ≡ word)
-
-found_more : (word : List ℕ) (at : ℕ) (name : List ℕ) (names : List (List ℕ)) (h : ℕ) → IsFound word (at + 1) names h → IsFound word at (name ∷ names) h
-found_more word at name names h f = (suc f.0, (let e : h ≡ at + 1 + f.0 = f.1 in omega arith), (let l : f.0 < length names = f.2 in omega arith), f.3)
-
-found_cons : (word : List ℕ) (at : ℕ) (name : List ℕ) (names : List (List ℕ)) (h : ℕ) → (test : Bool) → bytes_eq name word ≡ test → (place_from (at + 1) word names ≡ Some h → IsFound word (at + 1) names h) → (if test then Some at else place_from (at + 1) word names) ≡ Some h → IsFound word at (name ∷ names) h
-found_cons word at name names h true e more g = (0, (let s : at ≡ h = cc in omega arith), omega arith, (bytes_eq-Decides name word).0 e)
-found_cons word at name names h false e more g = found_more word at name names h (more g)
-
-found_from : (word : List ℕ) (at : ℕ) (names : List (List ℕ)) (h : ℕ) → place_from at word names ≡ Some h → IsFound word at names h
-found_from word at [] h g = absurd (cc)
-found_from word at (name ∷ names) h g = found_cons word at name names h (bytes_eq name word) refl (found_from word (at + 1) names h) g
-
-pub place_within : (word : List ℕ) (names : List (List ℕ)) (h : ℕ) → place_from 0 word names ≡ Some h → h < length names
-place_within word names h g = let f : IsFound word 0 names h = found_from word 0 names h g in let e : h ≡ 0 + f.0 = f.1 in let l : f.0 < length names = f.2 in omega arith
-
-place_name : (word : List ℕ) (names : List (List ℕ)) (h : ℕ) → place_from 0 word names ≡ Some h → get_or names h [] ≡ word
-place_name word names h g = let f : IsFound word 0 names h = found_from word 0 names h g in let e : h ≡ f.0 = (let s : h ≡ 0 + f.0 = f.1 in omega arith) in ap (λ i. get_or names i []) e ∙ f.3
 
 -- ---- echoes
 
 -- a line's words, joined by one space, read as its statement
-echo_reads : (line : List ℕ) (s : Statement) → statement_in (words_in line) ≡ Ok s → reads_as (join_with_byte 32 (words_in line)) s.handle s.call ≡ true
-echo_reads line s e = ap (λ words. is_statement s.handle s.call (statement_in words)) (echo_words line) ∙ statement_is (words_in line) s e
+echo_reads : (line : List ℕ) (s : Statement) → built_statement_in (words_in line) ≡ Ok s → reads_as (join_with_byte 32 (words_in line)) s.handle s.call ≡ true
+echo_reads line s e = ap (λ words. is_statement s.handle s.call (built_statement_in words)) (echo_words line) ∙ statement_is (words_in line) s e
 
 -- ---- the names grow
 
@@ -79,6 +60,12 @@ order_push : (opened : ℕ) (ls : List Line) (l : Line) → InOrder opened ls �
 order_push opened [] l o f = (subst (λ n. Fits n l.what) (omega arith) f, tt)
 order_push opened (m ∷ ms) l o f = (o.0, order_push (opened + opens m.what) ms l o.1 (subst (λ n. Fits n l.what) (omega arith) f))
 
+-- ---- the names of memory grow
+
+declare_push : (before ls : List Line) (l : Line) → DeclareInOrder before ls → FitsNames (before ++ ls) l.what → DeclareInOrder before (ls ++ l ∷ [])
+declare_push before [] l o f = (subst (λ ms. FitsNames ms l.what) (append-nil before) f, tt)
+declare_push before (m ∷ ms) l o f = (o.0, declare_push (before ++ m ∷ []) ms l o.1 (subst (λ ns. FitsNames ns l.what) (sym (append_assoc before (m ∷ []) ms)) f))
+
 -- ---- the process of each line
 
 fits_new : (opened h : ℕ) (call : Call) → declares call ≡ true → h ≡ opened → Fits opened (OnHandle h call)
@@ -97,13 +84,17 @@ opens_known : (h : ℕ) (call : Call) → declares call ≡ false → opens (OnH
 opens_known h (OpenHandle nonblock) e = absurd (cc)
 opens_known h call e = refl
 
+-- the name of memory in a statement on a handle fits the lines before it
+abbrev FitsMemory : ProcessLines → Statement → ℕ → Type 0
+FitsMemory p s h = mention_check (mention s.call) (memories_of h p.lines) ≡ Ok tt
+
 -- a process with these names and one line more
 abbrev with_more : ProcessLines → List (List ℕ) → ℕ → List ℕ → Statement → ℕ → ProcessLines
 with_more p names number echo s h = record { handles = names; lines = p.lines ++ record { number = number; echo = echo; what = OnHandle h s.call } ∷ [] }
 
-new_read : (p : ProcessLines) (number : ℕ) (echo : List ℕ) (s : Statement) → IsReadProcess p → length p.lines < 1024 → declares s.call ≡ true → IsBuilt s.call → reads_as echo s.handle s.call ≡ true
+new_read : (p : ProcessLines) (number : ℕ) (echo : List ℕ) (s : Statement) → IsReadProcess p → length p.lines < 1024 → FitsMemory p s (length p.handles) → declares s.call ≡ true → IsBuilt s.call → reads_as echo s.handle s.call ≡ true
     → IsReadProcess (with_more p (p.handles ++ s.handle ∷ []) number echo s (length p.handles))
-new_read p number echo s r few new built reads =
+new_read p number echo s r few memory new built reads =
     let names : List (List ℕ) = p.handles ++ s.handle ∷ [] in
     let read : IsReadCall names echo (length p.handles) s.call = record {
       within = simp length-append (omega arith);
@@ -115,11 +106,12 @@ new_read p number echo s r few new built reads =
       each = All-push (IsReadLine names) p.lines _ (All-weaker (IsReadLine p.handles) (IsReadLine names) (λ l. kind_grown p.handles s.handle l.echo l.what) p.lines r.each) read;
       order = order_push 0 p.lines _ r.order (fits_new (0 + opens_in p.lines) (length p.handles) s.call new (r.opened ∙ omega arith));
       opened = rw (opens_push p.lines _, length-append p.handles (s.handle ∷ []), opens_new (length p.handles) s.call new) (omega (arith, r.opened));
+      names = declare_push [] p.lines _ r.names memory;
     }
 
-known_read : (p : ProcessLines) (number : ℕ) (echo : List ℕ) (s : Statement) (h : ℕ) → IsReadProcess p → length p.lines < 1024 → declares s.call ≡ false → place_from 0 s.handle p.handles ≡ Some h → IsBuilt s.call → reads_as echo s.handle s.call ≡ true
+known_read : (p : ProcessLines) (number : ℕ) (echo : List ℕ) (s : Statement) (h : ℕ) → IsReadProcess p → length p.lines < 1024 → FitsMemory p s h → declares s.call ≡ false → place_from 0 s.handle p.handles ≡ Some h → IsBuilt s.call → reads_as echo s.handle s.call ≡ true
     → IsReadProcess (with_more p p.handles number echo s h)
-known_read p number echo s h r few known place built reads =
+known_read p number echo s h r few memory known place built reads =
     let here : h < length p.handles = place_within s.handle p.handles h place in
     let read : IsReadCall p.handles echo h s.call = record {
       within = here;
@@ -131,21 +123,23 @@ known_read p number echo s h r few known place built reads =
       each = All-push (IsReadLine p.handles) p.lines _ r.each read;
       order = order_push 0 p.lines _ r.order (fits_known (0 + opens_in p.lines) h s.call known (omega (arith, r.opened)));
       opened = rw (opens_push p.lines _, opens_known h s.call known) (omega (arith, r.opened));
+      names = declare_push [] p.lines _ r.names memory;
     }
 
 -- the process with a statement's line, by whether it declares the name
-abbrev by_declared : ProcessLines → ℕ → List (List ℕ) → Statement → ℕ → Bool → ProcessLines
-by_declared p number words s h declared = with_more p (if declared then p.handles ++ s.handle ∷ [] else p.handles) number (join_with_byte 32 words) s h
+abbrev by_declared : ProcessLines → ℕ → List ℕ → Statement → ℕ → Bool → ProcessLines
+by_declared p number echo s h declared = with_more p (if declared then p.handles ++ s.handle ∷ [] else p.handles) number echo s h
 
-statement_read : (p : ProcessLines) (number : ℕ) (line : List ℕ) (s : Statement) (h : ℕ) → IsReadProcess p → statement_in (words_in line) ≡ Ok s → handle_for p s ≡ Ok h → IsReadProcess (with_statement p number (words_in line) s h)
+statement_read : (p : ProcessLines) (number : ℕ) (line : List ℕ) (s : Statement) (h : ℕ) → IsReadProcess p → built_statement_in (words_in line) ≡ Ok s → handle_for p s ≡ Ok h → IsReadProcess (with_statement p number (join_with_byte 32 (words_in line)) s h)
 statement_read p number line s h r asks on =
-    let words : List (List ℕ) = words_in line in
-    let built : IsBuilt s.call = statement_built words s asks in
-    let reads : reads_as (join_with_byte 32 words) s.handle s.call ≡ true = echo_reads line s asks in
-    let P : Bool → Type 0 = λ declared. IsReadProcess (by_declared p number words s h declared) in
-    handle_cases (IsReadProcess (with_statement p number words s h)) p s h on
-    (λ few new next. subst P (sym new) (subst (λ k. IsReadProcess (by_declared p number words s k true)) (sym next) (new_read p number (join_with_byte 32 words) s r few new built reads)))
-    (λ few known place. subst P (sym known) (known_read p number (join_with_byte 32 words) s h r few known place built reads))
+    let echo : List ℕ = join_with_byte 32 (words_in line) in
+    let built : IsBuilt s.call = statement_built (words_in line) s asks in
+    let reads : reads_as echo s.handle s.call ≡ true = echo_reads line s asks in
+    let stands : IsOn p s h = is_on p s h on in
+    let P : Bool → Type 0 = λ declared. IsReadProcess (by_declared p number echo s h declared) in
+    by_place (IsReadProcess (with_statement p number echo s h)) (length p.handles) h (declares s.call) (place_from 0 s.handle p.handles) stands.place
+    (λ new next. subst P (sym new) (subst (λ k. IsReadProcess (by_declared p number echo s k true)) (sym next) (new_read p number echo s r stands.few (subst (FitsMemory p s) next stands.memory) new built reads)))
+    (λ known place. subst P (sym known) (known_read p number echo s h r stands.few stands.memory known place built reads))
 
 line_read : (p q : ProcessLines) (number : ℕ) (line : List ℕ) → IsReadProcess p → with_line p number line ≡ Ok q → IsReadProcess q
 line_read p q number line r e = with_line_has IsReadProcess p q number line r (λ s h asks on. statement_read p number line s h r asks on) e
@@ -164,6 +158,7 @@ none_read = record {
   each = All-nil (IsReadLine []);
   order = tt;
   opened = refl;
+  names = tt;
 }
 
 from_process : (s : ScriptLines) (r : Result ProcessLines ScriptFault) → ((p : ProcessLines) → r ≡ Ok p → IsReadProcess p) → as_script r ≡ Ok s → (p : ProcessLines) × (s ≡ record { model = Capture; processes = p ∷ [] }) × IsReadProcess p

@@ -1,243 +1,247 @@
--- What a statement that was read asks, and that a text reads as one call.
-use Rattle.std.proofs.Common.{◌≡◌, ◌⊎◌, inl, inr, ℕ, ◌-◌, ◌^◌, ◌<◌, ◌≤◌, ◌==◌, Bool, true, false, ◌&&◌, List, [], ◌∷◌, length, get_or, refl, ap, sym, ◌∙◌, subst, arith, Option, Some, None, Result, Ok, Err, if◌then◌else◌}
-use Rattle.std.specs.Prelude.{nat_le}
-use Rattle.std.specs.Int.{from_le_bytes, w32}
-use Rattle.std.specs.List.{list_all}
-use Rattle.std.specs.Option.{option_map, ok_or}
+-- A statement that was read asks a call that is built, and a text reads as one call.
+use Rattle.std.proofs.Common.{◌≡◌, ℕ, ◌<◌, ◌≤◌, ◌==◌, Bool, true, false, not, ◌&&◌, List, [], ◌∷◌, length, drop, refl, ap, sym, ◌∙◌, subst, arith, Option, Some, None, Result, Ok, Err, if◌then◌else◌}
+use Rattle.std.specs.Prelude.{IfSome, codes, filter}
+use Rattle.std.specs.List.{list_any}
+use Rattle.std.specs.Option.{ok_or}
 use Rattle.std.specs.Str.{bytes_eq}
 use Rattle.std.proofs.lemmas.Bool.Decides.{nat_tests}
 use Rattle.std.proofs.lemmas.Slice.Eq.{bytes_eq-Decides}
-use Rattle.v4l_const.specs.declared.numbers.TheConstants.{BUF_TYPE_CAPTURE, BUF_TYPE_OUTPUT}
 use Rattle.vm_local.specs.declared.call.Call.{Call}
-use Rattle.vm_local.specs.declared.call.Call.TheVariants as Asks
+use Rattle.vm_script.specs.declared.built.Form.{Form}
+use Rattle.vm_script.specs.declared.built.Form.TheVariants.{Of, Nonblock}
 use Rattle.vm_script.specs.declared.fault.ScriptKind.{ScriptKind}
-use Rattle.vm_script.specs.declared.fault.ScriptKind.TheVariants.{Word, Name, Number, NotBuilt}
-use Rattle.vm_script.specs.declared.forms.Statement.{Statement}
+use Rattle.vm_script.specs.declared.fault.ScriptKind.TheVariants.{Word, Name, NotBuilt}
+use Rattle.vm_script.specs.declared.statement.Statement.{Statement}
 use Rattle.vm_script.specs.declared.verb.Verb.{Verb}
-use Rattle.vm_script.specs.declared.verb.Verb.TheVariants.{Open, Close, QueryCap, EnumFmt, GFmt, TryFmt, SFmt, EnumInput, GInput, SInput}
-use Rattle.vm_script.specs.Words.{words_in, name_in, is_digits, number_after, code_in, is_visible}
-use Rattle.vm_script.specs.Statements.{Place, Handle, BufType, Code, Count, Value, Named, Counts, count_in, type_in, value_in, and_then, values_in, form_of, asked, statement_by, verb_of, is_unbuilt, statement_in, call_numbers, is_statement, reads_as}
-use Rattle.vm_script.specs.Reading.{IsBuilt}
+use Rattle.vm_script.specs.declared.verb.Verb.TheVariants.{Open, Close, QueryCap, EnumFmt, GFmt, TryFmt, SFmt, EnumInput, GInput, SInput, ReqBufs, QueryBuf, UAlloc, QBuf, StreamOn, StreamOff, DqBuf, Mmap, Munmap, Read, Hash, Write, Fill, Subscribe, Unsubscribe, DqEvent}
+use Rattle.vm_script.specs.Places.{Place, Memory, Count, Between, Value, Named, Counts, Holds, Is, and_then, values_by}
+use Rattle.vm_script.specs.Reading.{IsBuilt, IsName, Fits32, If, Where, queueing_form}
+use Rattle.vm_script.specs.Statements.{forms_of, forms_with, name_among, number_behind, asked, call_in, on, statement_by, statement_in, built_statement_in, call_numbers, is_statement, reads_as}
+use Rattle.vm_script.specs.Verbs.{verb_of, form_in, is_built, is_built_verb, other_words, is_built_line}
+use Rattle.vm_script.specs.Words.{words_in, name_in}
+use Rattle.vm_script.proofs.CallLemmas.{same_call}
+use Rattle.vm_script.proofs.PlaceLemmas.{IfThere, IfFine, then_fine, there_fine, both, AreOf, form_fine, IsSmall, AreSmall, values_small, values_length}
+use Rattle.vm_script.proofs.QueueLemmas.{queue_form}
 
--- ---- the numbers of words are of 32 bits
+where_built : (form : Form) (P : Type 0) → is_built form ≡ true → P → Where form P
+where_built form P e h = subst (λ b. If b P) (sym e) h
 
-abbrev IsSmall : Value → Type 0
-IsSmall (Named word) = Unit {0}
-IsSmall (Counts n) = n < 2 ^ 32
+-- the verb's form is built
+abbrev Has : Verb → Type 0
+Has verb = is_built (Of verb) ≡ true
 
-abbrev AreSmall : List Value → Type 0
-AreSmall [] = Unit {0}
-AreSmall (v ∷ vs) = IsSmall v × AreSmall vs
+-- ---- most verbs ask calls that are built where their values are small
 
--- P of what is there
-abbrev IfThere : {T : Type 0} → (T → Type 0) → Option T → Type 0
-IfThere P None = Unit {0}
-IfThere P (Some x) = P x
+-- the call is one that is built, unless more is to be known of the verb's values
+abbrev Known : Verb → Call → Type 0
+Known Open call = Unit {0}
+Known QBuf call = Unit {0}
+Known Read call = Unit {0}
+Known Fill call = Unit {0}
+Known verb call = IsBuilt call
 
-abbrev IfFine : {T : Type 0} → (T → Type 0) → Result T ScriptKind → Type 0
-IfFine P (Ok x) = P x
-IfFine P (Err kind) = Unit {0}
+known : (verb : Verb) → Has verb → (vs : List Value) → AreSmall vs → IfThere (Known verb) (asked verb vs)
+known Close e [] s = where_built (Of Close) (Unit {0}) e tt
+known QueryCap e [] s = where_built (Of QueryCap) (Unit {0}) e tt
+known EnumFmt e (Counts t ∷ Counts i ∷ []) s = where_built (Of EnumFmt) (Fits32 t × Fits32 i) e (s.0, s.1.0)
+known GFmt e (Counts t ∷ []) s = where_built (Of GFmt) (Fits32 t) e s.0
+known TryFmt e (Counts t ∷ Counts f ∷ Counts w ∷ Counts h ∷ []) s = where_built (Of TryFmt) (Fits32 t × Fits32 f × Fits32 w × Fits32 h) e (s.0, s.1.0, s.1.1.0, s.1.1.1.0)
+known SFmt e (Counts t ∷ Counts f ∷ Counts w ∷ Counts h ∷ []) s = where_built (Of SFmt) (Fits32 t × Fits32 f × Fits32 w × Fits32 h) e (s.0, s.1.0, s.1.1.0, s.1.1.1.0)
+known EnumInput e (Counts i ∷ []) s = where_built (Of EnumInput) (Fits32 i) e s.0
+known GInput e [] s = where_built (Of GInput) (Unit {0}) e tt
+known SInput e (Counts i ∷ []) s = where_built (Of SInput) (Fits32 i) e s.0
+known ReqBufs e (Counts t ∷ Counts m ∷ Counts n ∷ []) s = where_built (Of ReqBufs) (Fits32 t × Fits32 m × Fits32 n) e (s.0, s.1.0, s.1.1.0)
+known QueryBuf e (Counts t ∷ Counts i ∷ []) s = where_built (Of QueryBuf) (Fits32 t × Fits32 i) e (s.0, s.1.0)
+known UAlloc e (Named u ∷ Counts len ∷ Counts off ∷ []) s = where_built (Of UAlloc) (IsName u × Fits32 len × Fits32 off) e (s.0, s.1.0, s.1.1.0)
+known StreamOn e (Counts t ∷ []) s = where_built (Of StreamOn) (Fits32 t) e s.0
+known StreamOff e (Counts t ∷ []) s = where_built (Of StreamOff) (Fits32 t) e s.0
+known DqBuf e (Counts t ∷ []) s = where_built (Of DqBuf) (Fits32 t) e s.0
+known Mmap e (Named m ∷ Counts t ∷ Counts i ∷ []) s = where_built (Of Mmap) (IsName m × Fits32 t × Fits32 i) e (s.0, s.1.0, s.1.1.0)
+known Mmap e (Named m ∷ Counts t ∷ Counts i ∷ Is word ∷ []) s = where_built (Of Mmap) (IsName m × Fits32 t × Fits32 i) e (s.0, s.1.0, s.1.1.0)
+known Munmap e (Named m ∷ []) s = where_built (Of Munmap) (IsName m) e s.0
+known Hash e (Named m ∷ []) s = where_built (Of Hash) (IsName m) e s.0
+known Write e (Named m ∷ Counts off ∷ Holds bytes ∷ []) s = where_built (Of Write) (IsName m × Fits32 off × (1 ≤ length bytes) × (length bytes ≤ 256)) e (s.0, s.1.0, s.1.1.0.0, s.1.1.0.1)
+known Subscribe e (Counts n ∷ []) s = where_built (Of Subscribe) (Fits32 n) e s.0
+known Unsubscribe e (Counts n ∷ []) s = where_built (Of Unsubscribe) (Fits32 n) e s.0
+known DqEvent e [] s = where_built (Of DqEvent) (Unit {0}) e tt
+known Open e [] s = tt
+known Open e (Is word ∷ []) s = tt
+known QBuf e (Counts t ∷ Counts i ∷ vs) s = tt
+known Read e (Named m ∷ Counts off ∷ Counts len ∷ []) s = tt
+known Fill e (Named m ∷ Counts seed ∷ []) s = tt
+known verb e vs s = tt
 
-tested : (a b : Bool) (n : ℕ) → (b ≡ true → n < 2 ^ 32) → IfThere (λ m. m < 2 ^ 32) (if a && b then Some n else None)
-tested true true n small = small refl
-tested true false n small = tt
-tested false b n small = tt
+known_call : (verb : Verb) → Has verb → (words : List (List ℕ)) → IfFine (Known verb) (call_in verb words)
+known_call verb e words =
+    then_fine AreSmall (Known verb) (values_by (forms_with (length words) verb) words) _ (values_small (forms_with (length words) verb) words) (λ vs s. there_fine (Known verb) (asked verb vs) Word (known verb e vs s))
 
-count_small : (word : List ℕ) → IfThere (λ n. n < 2 ^ 32) (count_in word)
-count_small word = tested (is_digits 10 word) (nat_le (number_after 0 word) (2 ^ 32 - 1)) (number_after 0 word) (λ within. grind (arith, nat_tests))
+-- ---- `open`
 
-type_by : (capture output : Bool) (o : Option ℕ) → IfThere (λ n. n < 2 ^ 32) o → IfThere (λ n. n < 2 ^ 32) (if capture then Some BUF_TYPE_CAPTURE else (if output then Some BUF_TYPE_OUTPUT else o))
-type_by true output o small = omega arith
-type_by false true o small = omega arith
-type_by false false o small = small
+open_asked : (handle : List ℕ) (words : List (List ℕ)) (vs : List Value) → is_built (form_in Open (handle ∷ words)) ≡ true → length vs ≡ length words → IfThere IsBuilt (asked Open vs)
+open_asked handle [] [] e l = where_built (Of Open) (Unit {0}) e tt
+open_asked handle (word ∷ []) (Is key ∷ []) e l = where_built Nonblock (Unit {0}) e tt
+open_asked handle (word ∷ words) [] e l = absurd (omega arith)
+open_asked handle [] (Is key ∷ []) e l = absurd (omega arith)
+open_asked handle (word ∷ next ∷ words) (Is key ∷ []) e l = absurd (omega arith)
+open_asked handle words (Is key ∷ v ∷ vs) e l = tt
+open_asked handle words (Named name ∷ vs) e l = tt
+open_asked handle words (Counts n ∷ vs) e l = tt
+open_asked handle words (Holds bytes ∷ vs) e l = tt
 
-type_small : (word : List ℕ) → IfThere (λ n. n < 2 ^ 32) (type_in word)
-type_small word = type_by _ _ (count_in word) (count_small word)
+open_call : (handle : List ℕ) (words : List (List ℕ)) → is_built (form_in Open (handle ∷ words)) ≡ true → IfFine IsBuilt (call_in Open words)
+open_call handle words e =
+    then_fine (λ vs. length vs ≡ length words) IsBuilt (values_by (forms_with (length words) Open) words) _ (values_length (forms_with (length words) Open) words)
+    (λ vs l. there_fine IsBuilt (asked Open vs) Word (open_asked handle words vs e l))
 
-both : (a b : Bool) → (a && b) ≡ true → (a ≡ true) × (b ≡ true)
-both true b h = (refl, h)
-both false b h = absurd (cc)
+-- ---- `qbuf`
 
-visible_small : (b : ℕ) → is_visible b ≡ true → b ≤ 126
-visible_small b seen = let high = (both (nat_le 33 b) (nat_le b 126) seen).1 in grind (arith, nat_tests)
+number_small : (word : List ℕ) (vs : List Value) → AreSmall vs → Fits32 (number_behind word vs)
+number_small word [] s = omega arith
+number_small word (Is key ∷ Counts n ∷ vs) s = by_test (bytes_eq key word) s.1.0 (number_small word vs s.1.1)
+  where
+    by_test : {n m : ℕ} → (test : Bool) → Fits32 n → Fits32 m → Fits32 (if test then n else m)
+    by_test true h k = h
+    by_test false h k = k
+number_small word (Is key ∷ []) s = omega arith
+number_small word (Is key ∷ v ∷ vs) s = number_small word (v ∷ vs) s.1
+number_small word (v ∷ vs) s = number_small word vs s.1
 
-four_small : (word : List ℕ) → (length word == 4) ≡ true → list_all is_visible word ≡ true → from_le_bytes w32 word < 2 ^ 32
-four_small [] four seen = absurd (cc)
-four_small (a ∷ []) four seen = absurd (cc)
-four_small (a ∷ b ∷ []) four seen = absurd (cc)
-four_small (a ∷ b ∷ c ∷ []) four seen = absurd (cc)
-four_small (a ∷ b ∷ c ∷ d ∷ []) four seen =
-    let first = both (is_visible a) (list_all is_visible (b ∷ c ∷ d ∷ [])) seen in
-    let second = both (is_visible b) (list_all is_visible (c ∷ d ∷ [])) first.1 in
-    let third = both (is_visible c) (list_all is_visible (d ∷ [])) second.1 in
-    let fourth = both (is_visible d) true third.1 in
-    omega (arith, visible_small a first.0, visible_small b second.0, visible_small c third.0, visible_small d fourth.0)
-four_small (a ∷ b ∷ c ∷ d ∷ e ∷ word) four seen = absurd (grind (arith, nat_tests))
+name_small : (vs : List Value) → AreSmall vs → IfSome (name_among vs) IsName
+name_small [] s = tt
+name_small (Named name ∷ vs) s = s.0
+name_small (Counts n ∷ vs) s = name_small vs s.1
+name_small (Holds bytes ∷ vs) s = name_small vs s.1
+name_small (Is word ∷ vs) s = name_small vs s.1
 
-code_by : (four seen : Bool) (n : ℕ) → (four ≡ true → seen ≡ true → n < 2 ^ 32) → IfThere (λ m. m < 2 ^ 32) (if four && seen then Some n else None)
-code_by true true n small = small refl refl
-code_by true false n small = tt
-code_by false seen n small = tt
+queue_asked : (form : Form) (vs : List Value) → is_built form ≡ true → queueing_form (name_among (drop 2 vs)) ≡ form → AreSmall vs → IfThere IsBuilt (asked QBuf vs)
+queue_asked form (Counts t ∷ Counts i ∷ vs) e f s =
+    where_built (queueing_form (name_among vs)) (Fits32 t × Fits32 i × IfSome (name_among vs) IsName × Fits32 (number_behind (codes "used") vs) × Fits32 (number_behind (codes "ts") vs)) (ap is_built f ∙ e) (s.0, s.1.0, name_small vs s.1.1, number_small (codes "used") vs s.1.1, number_small (codes "ts") vs s.1.1)
+queue_asked form vs e f s = tt
 
-code_small : (word : List ℕ) → IfThere (λ n. n < 2 ^ 32) (code_in word)
-code_small word = code_by (length word == 4) (list_all is_visible word) (from_le_bytes w32 word) (four_small word)
+both_fine : {T : Type 0} → (P Q : T → Type 0) (r : Result T ScriptKind) → IfFine P r → IfFine Q r → IfFine (λ x. P x × Q x) r
+both_fine P Q (Ok x) h k = (h, k)
+both_fine P Q (Err kind) h k = tt
 
-named : (o : Option (List ℕ)) → IfFine IsSmall (ok_or (option_map Named o) Name)
-named None = tt
-named (Some word) = tt
+queue_call : (handle : List ℕ) (words : List (List ℕ)) → is_built (form_in QBuf (handle ∷ words)) ≡ true → IfFine IsBuilt (call_in QBuf words)
+queue_call handle words e =
+    let r : Result (List Value) ScriptKind = values_by (forms_with (length words) QBuf) words in
+    let HasForm : List Value → Type 0 = λ vs. queueing_form (name_among (drop 2 vs)) ≡ form_in QBuf (handle ∷ words) in
+    then_fine (λ vs. HasForm vs × AreSmall vs) IsBuilt r _ (both_fine HasForm AreSmall r (queue_form handle words) (values_small (forms_with (length words) QBuf) words))
+    (λ vs h. there_fine IsBuilt (asked QBuf vs) Word (queue_asked (form_in QBuf (handle ∷ words)) vs e h.0 h.1))
 
-counted : (o : Option ℕ) (kind : ScriptKind) → IfThere (λ n. n < 2 ^ 32) o → IfFine IsSmall (ok_or (option_map Counts o) kind)
-counted None kind small = tt
-counted (Some n) kind small = small
+-- ---- `read` and `fill`
 
-value_small : (place : Place) (word : List ℕ) → IfFine IsSmall (value_in place word)
-value_small Handle word = named (name_in word)
-value_small BufType word = counted (type_in word) Number (type_small word)
-value_small Count word = counted (count_in word) Number (count_small word)
-value_small Code word = counted (code_in word) Word (code_small word)
+-- the call that a verb asks by its only form, where the number of words is the form's
+form_call : (verb : Verb) (form : List Place) (words : List (List ℕ)) (test : Bool) → (length form == length words) ≡ test → ((vs : List Value) → AreOf form vs → IfThere IsBuilt (asked verb vs))
+    → (asked verb [] ≡ None) → IfFine IsBuilt (and_then (values_by (if test then form ∷ [] else []) words) (λ vs. ok_or (asked verb vs) Word))
+form_call verb form words true e asks none =
+    then_fine (AreOf form) IsBuilt (values_by (form ∷ []) words) _ (form_fine form words (grind (arith, nat_tests))) (λ vs h. there_fine IsBuilt (asked verb vs) Word (asks vs h))
+form_call verb form [] false e asks none = rw none tt
+form_call verb form (word ∷ words) false e asks none = tt
 
--- what holds of the first outcome's value and then of the second's
-then_fine : {T U : Type 0} → (P : T → Type 0) (Q : U → Type 0) (r : Result T ScriptKind) (next : T → Result U ScriptKind) → IfFine P r → ((x : T) → P x → IfFine Q (next x)) → IfFine Q (and_then r next)
-then_fine P Q (Ok x) next h k = k x h
-then_fine P Q (Err kind) next h k = tt
+read_asked : Has Read → (vs : List Value) → AreOf (Memory ∷ Count ∷ Between 1 256 ∷ []) vs → IfThere IsBuilt (asked Read vs)
+read_asked e (Named m ∷ Counts off ∷ Counts len ∷ []) h = where_built (Of Read) (IsName m × Fits32 off × (1 ≤ len) × (len ≤ 256)) e (h.0, h.1.0, h.1.1.0.1.0, h.1.1.0.1.1)
+read_asked e vs h = tt
 
-values_small : (places : List Place) (words : List (List ℕ)) → IfFine AreSmall (values_in places words)
-values_small [] words = tt
-values_small (place ∷ places) [] = tt
-values_small (place ∷ places) (word ∷ words) =
-    then_fine IsSmall AreSmall (value_in place word) _ (value_small place word) (λ v h. then_fine AreSmall AreSmall (values_in places words) _ (values_small places words) (λ vs k. (h, k)))
+fill_asked : Has Fill → (vs : List Value) → AreOf (Memory ∷ Between 0 255 ∷ []) vs → IfThere IsBuilt (asked Fill vs)
+fill_asked e (Named m ∷ Counts seed ∷ []) h = where_built (Of Fill) (IsName m × (seed ≤ 255)) e (h.0, h.1.0.1.1)
+fill_asked e vs h = tt
 
--- ---- statements ask calls that are built
+-- ---- statements
+
+-- a call of a built form is built
+call_built : (verb : Verb) (handle : List ℕ) (words : List (List ℕ)) → is_built (form_in verb (handle ∷ words)) ≡ true → IfFine IsBuilt (call_in verb words)
+call_built Open handle words e = open_call handle words e
+call_built QBuf handle words e = queue_call handle words e
+call_built Read handle words e = form_call Read (Memory ∷ Count ∷ Between 1 256 ∷ []) words _ refl (read_asked e) refl
+call_built Fill handle words e = form_call Fill (Memory ∷ Between 0 255 ∷ []) words _ refl (fill_asked e) refl
+call_built Close handle words e = known_call Close e words
+call_built QueryCap handle words e = known_call QueryCap e words
+call_built EnumFmt handle words e = known_call EnumFmt e words
+call_built GFmt handle words e = known_call GFmt e words
+call_built TryFmt handle words e = known_call TryFmt e words
+call_built SFmt handle words e = known_call SFmt e words
+call_built EnumInput handle words e = known_call EnumInput e words
+call_built GInput handle words e = known_call GInput e words
+call_built SInput handle words e = known_call SInput e words
+call_built ReqBufs handle words e = known_call ReqBufs e words
+call_built QueryBuf handle words e = known_call QueryBuf e words
+call_built UAlloc handle words e = known_call UAlloc e words
+call_built StreamOn handle words e = known_call StreamOn e words
+call_built StreamOff handle words e = known_call StreamOff e words
+call_built DqBuf handle words e = known_call DqBuf e words
+call_built Mmap handle words e = known_call Mmap e words
+call_built Munmap handle words e = known_call Munmap e words
+call_built Hash handle words e = known_call Hash e words
+call_built Write handle words e = known_call Write e words
+call_built Subscribe handle words e = known_call Subscribe e words
+call_built Unsubscribe handle words e = known_call Unsubscribe e words
+call_built DqEvent handle words e = known_call DqEvent e words
 
 abbrev AsksBuilt : Statement → Type 0
 AsksBuilt s = IsBuilt s.call
 
-asked_built : (verb : Verb) (vs : List Value) → AreSmall vs → IfThere AsksBuilt (asked verb vs)
-asked_built Open (Named h ∷ []) small = refl
-asked_built Close (Named h ∷ []) small = tt
-asked_built QueryCap (Named h ∷ []) small = tt
-asked_built EnumFmt (Named h ∷ Counts t ∷ Counts i ∷ []) small = (small.1.0, small.1.1.0)
-asked_built GFmt (Named h ∷ Counts t ∷ []) small = small.1.0
-asked_built TryFmt (Named h ∷ Counts t ∷ Counts f ∷ Counts w ∷ Counts n ∷ []) small = (small.1.0, small.1.1.0, small.1.1.1.0, small.1.1.1.1.0)
-asked_built SFmt (Named h ∷ Counts t ∷ Counts f ∷ Counts w ∷ Counts n ∷ []) small = (small.1.0, small.1.1.0, small.1.1.1.0, small.1.1.1.1.0)
-asked_built EnumInput (Named h ∷ Counts i ∷ []) small = small.1.0
-asked_built GInput (Named h ∷ []) small = tt
-asked_built SInput (Named h ∷ Counts i ∷ []) small = small.1.0
-asked_built verb vs small = tt
-
-there_fine : (o : Option Statement) (kind : ScriptKind) → IfThere AsksBuilt o → IfFine AsksBuilt (ok_or o kind)
-there_fine None kind h = tt
-there_fine (Some s) kind h = h
-
-fine_if : (b : Bool) (r : Result Statement ScriptKind) (kind : ScriptKind) → IfFine AsksBuilt r → IfFine AsksBuilt (if b then r else Err kind)
-fine_if true r kind h = h
-fine_if false r kind h = tt
-
-by_built : (verb : Verb) (words : List (List ℕ)) → IfFine AsksBuilt (statement_by verb words)
-by_built verb words =
-    fine_if (length words == length (form_of verb)) _ Word
-    (then_fine AreSmall AsksBuilt (values_in (form_of verb) words) _ (values_small (form_of verb) words) (λ vs h. there_fine (asked verb vs) Word (asked_built verb vs h)))
+on_built : (name : Result (List ℕ) ScriptKind) (call : Result Call ScriptKind) → IfFine IsBuilt call → IfFine AsksBuilt (and_then name (λ h. and_then call (λ c. Ok (record { handle = h; call = c }))))
+on_built (Ok name) (Ok call) h = h
+on_built (Ok name) (Err kind) h = tt
+on_built (Err kind) call h = tt
 
 fine_unless : (b : Bool) (r : Result Statement ScriptKind) (kind : ScriptKind) → IfFine AsksBuilt r → IfFine AsksBuilt (if b then Err kind else r)
 fine_unless true r kind h = tt
 fine_unless false r kind h = h
 
-some_verb : (o : Option Verb) (words : List (List ℕ)) → IfFine AsksBuilt (and_then (ok_or o Word) (λ v. statement_by v words))
-some_verb None words = tt
-some_verb (Some verb) words = by_built verb words
+by_built : (verb : Verb) (words : List (List ℕ)) → is_built (form_in verb words) ≡ true → IfFine AsksBuilt (statement_by verb words)
+by_built verb [] e = tt
+by_built verb (handle ∷ words) e = fine_unless (length (forms_with (length words) verb) == 0) _ Word (on_built (ok_or (name_in handle) Name) (call_in verb words) (call_built verb handle words e))
 
-in_built : (words : List (List ℕ)) → IfFine AsksBuilt (statement_in words)
-in_built [] = tt
-in_built (verb ∷ words) = fine_unless (is_unbuilt verb words) _ NotBuilt (some_verb (verb_of verb) words)
+some_verb : (o : Option Verb) (words : List (List ℕ)) → is_built_verb o words ≡ true → IfFine AsksBuilt (and_then (ok_or o Word) (λ verb. statement_by verb words))
+some_verb None words e = tt
+some_verb (Some verb) words e = by_built verb words e
+
+fine_where : (b : Bool) (r : Result Statement ScriptKind) (kind : ScriptKind) → (b ≡ true → IfFine AsksBuilt r) → IfFine AsksBuilt (if b then r else Err kind)
+fine_where true r kind h = h refl
+fine_where false r kind h = tt
+
+line_built : (words : List (List ℕ)) → is_built_line words ≡ true → IfFine AsksBuilt (statement_in words)
+line_built [] e = tt
+line_built (first ∷ words) e = some_verb (verb_of first) words (both (not (list_any (λ w. bytes_eq w first) other_words)) (is_built_verb (verb_of first) words) e).1
+
+in_built : (words : List (List ℕ)) → IfFine AsksBuilt (built_statement_in words)
+in_built words = fine_where (is_built_line words) (statement_in words) NotBuilt (line_built words)
 
 -- a statement that was read asks a call that is built
-pub statement_built : (words : List (List ℕ)) (s : Statement) → statement_in words ≡ Ok s → IsBuilt s.call
+pub statement_built : (words : List (List ℕ)) (s : Statement) → built_statement_in words ≡ Ok s → IsBuilt s.call
 statement_built words s e = subst (IfFine AsksBuilt) e (in_built words)
-
--- ---- calls with the same numbers are the same
-
--- the call that numbers stand for
-abbrev call_from : List ℕ → Call
-call_from [] = Asks.DqEvent
-call_from (kind ∷ ns) =
-    if kind == 1 then Asks.OpenHandle (get_or ns 0 0 == 1)
-    else (if kind == 2 then Asks.CloseHandle
-    else (if kind == 3 then Asks.QueryCap
-    else (if kind == 4 then Asks.EnumFmt (get_or ns 0 0) (get_or ns 1 0)
-    else (if kind == 5 then Asks.GFmt (get_or ns 0 0)
-    else (if kind == 6 then Asks.TryFmt (get_or ns 0 0) (record { 0 = get_or ns 1 0 }) (get_or ns 2 0) (get_or ns 3 0)
-    else (if kind == 7 then Asks.SFmt (get_or ns 0 0) (record { 0 = get_or ns 1 0 }) (get_or ns 2 0) (get_or ns 3 0)
-    else (if kind == 8 then Asks.EnumInput (get_or ns 0 0)
-    else (if kind == 9 then Asks.GInput
-    else Asks.SInput (get_or ns 0 0)))))))))
-
--- a call is what its numbers stand for, unless it has none
-from_numbers : (call : Call) → (call_numbers call ≡ []) ⊎ (call_from (call_numbers call) ≡ call)
-from_numbers (Asks.OpenHandle true) = inr refl
-from_numbers (Asks.OpenHandle false) = inr refl
-from_numbers Asks.CloseHandle = inr refl
-from_numbers Asks.QueryCap = inr refl
-from_numbers (Asks.EnumFmt t i) = inr refl
-from_numbers (Asks.GFmt t) = inr refl
-from_numbers (Asks.TryFmt t f w h) = inr refl
-from_numbers (Asks.SFmt t f w h) = inr refl
-from_numbers (Asks.EnumInput i) = inr refl
-from_numbers Asks.GInput = inr refl
-from_numbers (Asks.SInput i) = inr refl
-from_numbers call = inl refl
-
-some_numbers : (call : Call) → IsBuilt call → call_numbers call ≡ [] → ⊥
-some_numbers (Asks.OpenHandle nonblock) built none = cc
-some_numbers Asks.CloseHandle built none = cc
-some_numbers Asks.QueryCap built none = cc
-some_numbers (Asks.EnumFmt t i) built none = cc
-some_numbers (Asks.GFmt t) built none = cc
-some_numbers (Asks.TryFmt t f w h) built none = cc
-some_numbers (Asks.SFmt t f w h) built none = cc
-some_numbers (Asks.EnumInput i) built none = cc
-some_numbers Asks.GInput built none = cc
-some_numbers (Asks.SInput i) built none = cc
-some_numbers call built none = built
-
-same_call : (c d : Call) → IsBuilt c → call_numbers c ≡ call_numbers d → c ≡ d
-same_call c d built same =
-    elim (from_numbers c) [
-      | inl none ↦ absurd (some_numbers c built none)
-      | inr from ↦ elim (from_numbers d) [
-        | inl none ↦ absurd (some_numbers c built (same ∙ none))
-        | inr from_too ↦ sym from ∙ ap call_from same ∙ from_too
-      ]
-    ]
 
 -- ---- texts
 
-is_it : (name : List ℕ) (call : Call) (s : Statement) → IsBuilt s.call → is_statement name call (Ok s) ≡ true → (s.handle ≡ name) × (s.call ≡ call)
-is_it name call s built h =
+is_it : (name : List ℕ) (call : Call) (s : Statement) → is_statement name call (Ok s) ≡ true → (s.handle ≡ name) × (s.call ≡ call)
+is_it name call s h =
     let parted = both (bytes_eq s.handle name) (bytes_eq (call_numbers s.call) (call_numbers call)) h in
-    ((bytes_eq-Decides s.handle name).0 parted.0, same_call s.call call built ((bytes_eq-Decides (call_numbers s.call) (call_numbers call)).0 parted.1))
+    ((bytes_eq-Decides s.handle name).0 parted.0, same_call s.call call ((bytes_eq-Decides (call_numbers s.call) (call_numbers call)).0 parted.1))
 
 built_by : (name : List ℕ) (call : Call) (r : Result Statement ScriptKind) → IfFine AsksBuilt r → is_statement name call r ≡ true → IsBuilt call
-built_by name call (Ok s) built h = subst IsBuilt (is_it name call s built h).1 built
+built_by name call (Ok s) built h = subst IsBuilt (is_it name call s h).1 built
 built_by name call (Err kind) built h = absurd (cc)
 
 -- a text reads as calls that are built
 pub reads_built : (text name : List ℕ) (call : Call) → reads_as text name call ≡ true → IsBuilt call
-reads_built text name call h = built_by name call (statement_in (words_in text)) (in_built (words_in text)) h
+reads_built text name call h = built_by name call (built_statement_in (words_in text)) (in_built (words_in text)) h
 
-one_by : (name other : List ℕ) (call next : Call) (r : Result Statement ScriptKind) → IfFine AsksBuilt r → is_statement name call r ≡ true → is_statement other next r ≡ true → (name ≡ other) × (call ≡ next)
-one_by name other call next (Ok s) built h k =
-    let one = is_it name call s built h in
-    let two = is_it other next s built k in
+one_by : (name other : List ℕ) (call next : Call) (r : Result Statement ScriptKind) → is_statement name call r ≡ true → is_statement other next r ≡ true → (name ≡ other) × (call ≡ next)
+one_by name other call next (Ok s) h k =
+    let one = is_it name call s h in
+    let two = is_it other next s k in
     (sym one.0 ∙ two.0, sym one.1 ∙ two.1)
-one_by name other call next (Err kind) built h k = absurd (cc)
+one_by name other call next (Err kind) h k = absurd (cc)
 
 -- a text reads as one call on one handle
 pub reads_one : (text name other : List ℕ) (call next : Call) → reads_as text name call ≡ true → reads_as text other next ≡ true → (name ≡ other) × (call ≡ next)
-reads_one text name other call next h k = one_by name other call next (statement_in (words_in text)) (in_built (words_in text)) h k
+reads_one text name other call next h k = one_by name other call next (built_statement_in (words_in text)) h k
 
 same_bytes : (xs : List ℕ) → bytes_eq xs xs ≡ true
 same_bytes xs = (bytes_eq-Decides xs xs).1 refl
 
 -- the words of a statement read as it
-pub statement_is : (words : List (List ℕ)) (s : Statement) → statement_in words ≡ Ok s → is_statement s.handle s.call (statement_in words) ≡ true
+pub statement_is : (words : List (List ℕ)) (s : Statement) → built_statement_in words ≡ Ok s → is_statement s.handle s.call (built_statement_in words) ≡ true
 statement_is words s e = rw (e, same_bytes s.handle) (same_bytes (call_numbers s.call))

@@ -1,18 +1,21 @@
 -- The grammar of scripts, by lines: which bytes are a script, and which line is faulty first.
 use Rattle.std.specs.Prelude.{ℕ, ◌+◌, nat_le, Bool, true, false, List, [], ◌∷◌, ◌++◌, length, Option, Some, None, Result, Ok, Err, if◌then◌else◌}
 use Rattle.std.specs.List.{join_with_byte}
-use Rattle.std.specs.Str.{bytes_eq}
 use Rattle.v4l_const.specs.declared.model.Model.TheVariants.{Capture}
 use Rattle.vm_local.specs.declared.call.Call.{Call}
 use Rattle.vm_local.specs.declared.call.Call.TheVariants.{OpenHandle}
 use Rattle.vm_script.specs.declared.fault.ScriptFault.{ScriptFault}
 use Rattle.vm_script.specs.declared.fault.ScriptKind.{ScriptKind}
-use Rattle.vm_script.specs.declared.fault.ScriptKind.TheVariants.{TooManyLines, OpenTwice, NotDeclared}
-use Rattle.vm_script.specs.declared.forms.Statement.{Statement}
+use Rattle.vm_script.specs.declared.fault.ScriptKind.TheVariants.{TooManyLines, OpenTwice, NotDeclared, NotBuilt}
 use Rattle.vm_script.specs.declared.line.LineKind.TheVariants.{OnHandle}
+use Rattle.vm_script.specs.declared.statement.Statement.{Statement}
+use Rattle.vm_script.specs.Memory.{mention, memories_of, mention_check}
+use Rattle.vm_script.specs.Names.{place_from}
 use Rattle.vm_script.specs.Script.{ProcessLines, ScriptLines}
+use Rattle.vm_script.specs.Verbs.{is_built_line}
 pub use Rattle.vm_script.specs.Words.{lines_in, words_in, is_skipped, is_name, name_in, is_digit, number_in, code_in}
-pub use Rattle.vm_script.specs.Statements.{and_then, statement_in, reads_as}
+pub use Rattle.vm_script.specs.Places.{and_then}
+pub use Rattle.vm_script.specs.Statements.{statement_in, reads_as}
 
 -- ---- processes
 
@@ -24,44 +27,49 @@ no_lines = record { handles = []; lines = [] }
 abbrev pub statement_limit : ℕ
 statement_limit = 1024
 
--- the place of the first name that is the word, from this place on
-abbrev pub place_from : ℕ → List ℕ → List (List ℕ) → Option ℕ
-place_from at word [] = None
-place_from at word (name ∷ names) = if bytes_eq name word then Some at else place_from (at + 1) word names
-
 -- the call declares its handle's name
 abbrev pub declares : Call → Bool
 declares (OpenHandle nonblock) = true
 declares call = false
 
--- The handle that a name stands for, by whether the line declares it, and by its place among the names that are
--- declared: a new name is that of the next handle.
+-- The handle that a name stands for, by whether the line declares it, and by its place among the names that
+-- are declared: a new name is that of the next handle.
 abbrev pub handle_by : ℕ → Bool → Option ℕ → Result ℕ ScriptKind
 handle_by next true None = Ok next
 handle_by next true (Some h) = Err OpenTwice
 handle_by next false None = Err NotDeclared
 handle_by next false (Some h) = Ok h
 
+-- The handle that a statement is on. Its name of memory is judged by those that earlier lines declare in that
+-- handle.
+abbrev pub handle_of : ProcessLines → Statement → Result ℕ ScriptKind
+handle_of p s =
+    and_then (handle_by (length p.handles) (declares s.call) (place_from 0 s.handle p.handles))
+    (λ h. and_then (mention_check (mention s.call) (memories_of h p.lines)) (λ fine. Ok h))
+
 -- the handle that a statement is on, or the first fault that it has by the lines before it
 abbrev pub handle_for : ProcessLines → Statement → Result ℕ ScriptKind
-handle_for p s =
-    if nat_le statement_limit (length p.lines) then Err TooManyLines
-    else handle_by (length p.handles) (declares s.call) (place_from 0 s.handle p.handles)
+handle_for p s = if nat_le statement_limit (length p.lines) then Err TooManyLines else handle_of p s
 
 -- the process with the line of a statement on this handle
-abbrev pub with_statement : ProcessLines → ℕ → List (List ℕ) → Statement → ℕ → ProcessLines
-with_statement p number words s h = record {
+abbrev pub with_statement : ProcessLines → ℕ → List ℕ → Statement → ℕ → ProcessLines
+with_statement p number echo s h = record {
   handles = if declares s.call then p.handles ++ s.handle ∷ [] else p.handles;
-  lines = p.lines ++ record { number = number; echo = join_with_byte 32 words; what = OnHandle h s.call } ∷ [];
+  lines = p.lines ++ record { number = number; echo = echo; what = OnHandle h s.call } ∷ [];
 }
 
--- the statement that a line's words are and the handle that it is on, or the line's first fault
-abbrev pub placed_in : ProcessLines → List (List ℕ) → Result (Statement × ℕ) ScriptKind
-placed_in p words = and_then (statement_in words) (λ s. and_then (handle_for p s) (λ h. Ok (s, h)))
+-- the process with the line of a statement, or the first fault that it has by the lines before it
+abbrev pub with_asked : ProcessLines → ℕ → List ℕ → Statement → Result ProcessLines ScriptKind
+with_asked p number echo s = and_then (handle_for p s) (λ h. Ok (with_statement p number echo s h))
 
 -- the process with the line of these words, or the line's first fault
 abbrev pub with_words : ProcessLines → ℕ → List (List ℕ) → Result ProcessLines ScriptKind
-with_words p number words = and_then (placed_in p words) (λ placed. Ok (with_statement p number words placed.0 placed.1))
+with_words p number words =
+    and_then (statement_in words) (λ s. with_asked p number (join_with_byte 32 words) s)
+
+-- the same, where a line that isn't built has that fault before any other
+abbrev pub with_built_words : ProcessLines → ℕ → List (List ℕ) → Result ProcessLines ScriptKind
+with_built_words p number words = if is_built_line words then with_words p number words else Err NotBuilt
 
 -- ---- scripts
 
@@ -72,7 +80,8 @@ at_line number (Err kind) = Err (record { line = number; kind = kind })
 
 -- the process with the line of this number, or the line's fault
 abbrev pub with_line : ProcessLines → ℕ → List ℕ → Result ProcessLines ScriptFault
-with_line p number line = if is_skipped line then Ok p else at_line number (with_words p number (words_in line))
+with_line p number line =
+    if is_skipped line then Ok p else at_line number (with_built_words p number (words_in line))
 
 -- the process with these lines, numbered from this number on, or the first faulty line's fault
 abbrev pub with_lines : ProcessLines → ℕ → List (List ℕ) → Result ProcessLines ScriptFault

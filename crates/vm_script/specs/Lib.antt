@@ -1,7 +1,10 @@
 pub mod Grammar
 pub mod Lines
+pub mod Memory
 pub mod Names
+pub mod Places
 pub mod Reading
 pub mod Script
 pub mod Statements
+pub mod Verbs
 pub mod Words

@@ -1,11 +1,16 @@
--- How names are found: each by a key of its own.
-use Rattle.std.specs.Prelude.{ℕ, ◌≡◌, ◌<◌, ◌≤◌, ◌-◌, ◌++◌, List, length, replicate, slice_index_or}
+-- The places of names, and how they are found: each by a key of its own.
+use Rattle.std.specs.Prelude.{ℕ, ◌≡◌, ◌<◌, ◌≤◌, ◌+◌, ◌-◌, ◌++◌, List, [], ◌∷◌, length, replicate, slice_index_or, Option, Some, None, if◌then◌else◌}
 use Rattle.std.specs.BTreeMap.{is_at}
 use Rattle.std.specs.Int.{from_le_bytes, w64}
 use Rattle.std.specs.Map.{lookup}
 use Rattle.std.specs.Ordering.{nat_cmp, ordering_then}
+use Rattle.std.specs.Str.{bytes_eq}
 use Rattle.std.specs.declared.cmp.Ordering.{Ordering}
-use Rattle.vm_script.specs.Grammar.{place_from}
+
+-- the place of the first name that is the word, from this place on
+abbrev pub place_from : ℕ → List ℕ → List (List ℕ) → Option ℕ
+place_from at word [] = None
+place_from at word (name ∷ names) = if bytes_eq name word then Some at else place_from (at + 1) word names
 
 -- at most 8 bytes
 pub record IsShort (word : List ℕ) : Type 0 where

@@ -1,136 +1,171 @@
--- The statements of scripts: the table of their words, and what a line's words ask.
-use Rattle.std.specs.Prelude.{ℕ, ◌==◌, ◌&&◌, ◌||◌, ◌-◌, ◌^◌, Bool, false, List, [], ◌∷◌, length, Option, Some, None, Result, Ok, Err, if◌then◌else◌, codes}
-use Rattle.std.specs.List.{list_any, find}
-use Rattle.std.specs.Option.{option_map, ok_or}
+-- The statements of scripts: what a line's words ask, and their first fault.
+use Rattle.std.specs.Prelude.{ℕ, ◌==◌, ◌&&◌, Bool, true, false, List, [], ◌∷◌, ◌++◌, length, map, filter, Option, Some, None, Result, Ok, Err, if◌then◌else◌, codes}
+use Rattle.std.specs.Option.{ok_or}
 use Rattle.std.specs.Str.{bytes_eq}
-use Rattle.v4l_const.specs.declared.numbers.TheConstants.{BUF_TYPE_CAPTURE, BUF_TYPE_OUTPUT}
 use Rattle.vm_local.specs.declared.call.Call.{Call}
 use Rattle.vm_local.specs.declared.call.Call.TheVariants as Asks
+use Rattle.vm_script.specs.declared.extras.Extras.{Extras}
 use Rattle.vm_script.specs.declared.fault.ScriptKind.{ScriptKind}
 use Rattle.vm_script.specs.declared.fault.ScriptKind.TheVariants.{Word, Name, Number, NotBuilt}
-use Rattle.vm_script.specs.declared.forms.Statement.{Statement}
+use Rattle.vm_script.specs.declared.statement.Statement.{Statement}
 use Rattle.vm_script.specs.declared.verb.Verb.{Verb}
-use Rattle.vm_script.specs.declared.verb.Verb.TheVariants.{Open, Close, QueryCap, EnumFmt, GFmt, TryFmt, SFmt, EnumInput, GInput, SInput}
-use Rattle.vm_script.specs.Words.{words_in, name_in, number_in, code_in}
-
--- ---- the verbs
-
-abbrev pub word_of : Verb → List ℕ
-word_of Open = codes "open"
-word_of Close = codes "close"
-word_of QueryCap = codes "querycap"
-word_of EnumFmt = codes "enumfmt"
-word_of GFmt = codes "gfmt"
-word_of TryFmt = codes "tryfmt"
-word_of SFmt = codes "sfmt"
-word_of EnumInput = codes "enuminput"
-word_of GInput = codes "ginput"
-word_of SInput = codes "sinput"
-
-abbrev pub verbs : List Verb
-verbs = Open ∷ Close ∷ QueryCap ∷ EnumFmt ∷ GFmt ∷ TryFmt ∷ SFmt ∷ EnumInput ∷ GInput ∷ SInput ∷ []
-
--- the verb that a line's first word is
-abbrev pub verb_of : List ℕ → Option Verb
-verb_of word = find (λ v. bytes_eq (word_of v) word) verbs
-
--- the first words of the lines that aren't built yet
-abbrev pub unbuilt_verbs : List (List ℕ)
-unbuilt_verbs =
-    codes "device" ∷ codes "proc" ∷ codes "raw" ∷ codes "reqbufs" ∷ codes "querybuf" ∷ codes "ualloc" ∷ codes "qbuf"
-    ∷ codes "streamon" ∷ codes "streamoff" ∷ codes "dqbuf" ∷ codes "mmap" ∷ codes "munmap" ∷ codes "read" ∷ codes "hash"
-    ∷ codes "write" ∷ codes "fill" ∷ codes "subscribe" ∷ codes "unsubscribe" ∷ codes "dqevent" ∷ []
-
--- a line that isn't built yet: one that begins with such a word, or an open of three words
-abbrev pub is_unbuilt : List ℕ → List (List ℕ) → Bool
-is_unbuilt verb words = list_any (λ v. bytes_eq v verb) unbuilt_verbs || (bytes_eq verb (codes "open") && (length words == 2))
-
--- ---- the places of words, and what words in them stand for
-
--- What a word is wanted for: a handle's name, a buffer type, a number or a picture format's code.
-pub data Place : Type 0 where
-  Handle : Place
-  BufType : Place
-  Count : Place
-  Code : Place
-
-pub data Value : Type 0 where
-  Named : List ℕ → Value
-  Counts : ℕ → Value
-
--- 1 to 10 decimal digits, at most 4,294,967,295
-abbrev pub count_in : List ℕ → Option ℕ
-count_in word = number_in 10 (2 ^ 32 - 1) word
-
--- a buffer type by its word, or any number
-abbrev pub type_in : List ℕ → Option ℕ
-type_in word = if bytes_eq word (codes "cap") then Some BUF_TYPE_CAPTURE else (if bytes_eq word (codes "out") then Some BUF_TYPE_OUTPUT else count_in word)
-
--- the value of a word in its place, or what is wrong with it there
-abbrev pub value_in : Place → List ℕ → Result Value ScriptKind
-value_in Handle word = ok_or (option_map Named (name_in word)) Name
-value_in BufType word = ok_or (option_map Counts (type_in word)) Number
-value_in Count word = ok_or (option_map Counts (count_in word)) Number
-value_in Code word = ok_or (option_map Counts (code_in word)) Word
-
-abbrev pub and_then : {T U E : Type 0} → Result T E → (T → Result U E) → Result U E
-and_then (Ok x) next = next x
-and_then (Err e) next = Err e
-
--- the values of words in their places, as many as there are places, or the first fault
-abbrev pub values_in : List Place → List (List ℕ) → Result (List Value) ScriptKind
-values_in (place ∷ places) (word ∷ words) = and_then (value_in place word) (λ v. and_then (values_in places words) (λ vs. Ok (v ∷ vs)))
-values_in places words = Ok []
+use Rattle.vm_script.specs.declared.verb.Verb.TheVariants.{Open, Close, QueryCap, EnumFmt, GFmt, TryFmt, SFmt, EnumInput, GInput, SInput, ReqBufs, QueryBuf, UAlloc, QBuf, StreamOn, StreamOff, DqBuf, Mmap, Munmap, Read, Hash, Write, Fill, Subscribe, Unsubscribe, DqEvent}
+use Rattle.vm_script.specs.Places.{Place, Memory, BufType, MemoryKind, Count, Between, Code, Hex, This, Value, Named, Counts, Holds, Is, count_in, type_in, and_then, values_by, each_optional}
+use Rattle.vm_script.specs.Verbs.{verb_of, is_built_line}
+use Rattle.vm_script.specs.Words.{words_in, name_in}
 
 -- ---- the table of statements
 
--- the places of the words behind each verb
-abbrev pub form_of : Verb → List Place
-form_of Open = Handle ∷ []
-form_of Close = Handle ∷ []
-form_of QueryCap = Handle ∷ []
-form_of EnumFmt = Handle ∷ BufType ∷ Count ∷ []
-form_of GFmt = Handle ∷ BufType ∷ []
-form_of TryFmt = Handle ∷ BufType ∷ Code ∷ Count ∷ Count ∷ []
-form_of SFmt = Handle ∷ BufType ∷ Code ∷ Count ∷ Count ∷ []
-form_of EnumInput = Handle ∷ Count ∷ []
-form_of GInput = Handle ∷ []
-form_of SInput = Handle ∷ Count ∷ []
+-- what may stand behind the index of a `qbuf`
+abbrev pub number_extras : List (List Place)
+number_extras = (This (codes "used") ∷ Count ∷ []) ∷ (This (codes "ts") ∷ Count ∷ []) ∷ []
 
--- a call on the handle of this name
-abbrev pub on : List ℕ → Call → Option Statement
-on handle call = Some (record { handle = handle; call = call })
+abbrev pub extras : List (List Place)
+extras = (This (codes "user") ∷ Memory ∷ []) ∷ number_extras
 
--- what each verb asks with the values of its form
-abbrev pub asked : Verb → List Value → Option Statement
-asked Open (Named h ∷ []) = on h (Asks.OpenHandle false)
-asked Close (Named h ∷ []) = on h Asks.CloseHandle
-asked QueryCap (Named h ∷ []) = on h Asks.QueryCap
-asked EnumFmt (Named h ∷ Counts t ∷ Counts i ∷ []) = on h (Asks.EnumFmt t i)
-asked GFmt (Named h ∷ Counts t ∷ []) = on h (Asks.GFmt t)
-asked TryFmt (Named h ∷ Counts t ∷ Counts f ∷ Counts w ∷ Counts n ∷ []) = on h (Asks.TryFmt t (record { 0 = f }) w n)
-asked SFmt (Named h ∷ Counts t ∷ Counts f ∷ Counts w ∷ Counts n ∷ []) = on h (Asks.SFmt t (record { 0 = f }) w n)
-asked EnumInput (Named h ∷ Counts i ∷ []) = on h (Asks.EnumInput i)
-asked GInput (Named h ∷ []) = on h Asks.GInput
-asked SInput (Named h ∷ Counts i ∷ []) = on h (Asks.SInput i)
-asked verb values = None
+-- the forms of each verb: the places of the words behind the handle's name
+abbrev pub forms_of : Verb → List (List Place)
+forms_of Open = [] ∷ (This (codes "nonblock") ∷ []) ∷ []
+forms_of Close = [] ∷ []
+forms_of QueryCap = [] ∷ []
+forms_of EnumFmt = (BufType ∷ Count ∷ []) ∷ []
+forms_of GFmt = (BufType ∷ []) ∷ []
+forms_of TryFmt = (BufType ∷ Code ∷ Count ∷ Count ∷ []) ∷ []
+forms_of SFmt = (BufType ∷ Code ∷ Count ∷ Count ∷ []) ∷ []
+forms_of EnumInput = (Count ∷ []) ∷ []
+forms_of GInput = [] ∷ []
+forms_of SInput = (Count ∷ []) ∷ []
+forms_of ReqBufs = (BufType ∷ MemoryKind ∷ Count ∷ []) ∷ []
+forms_of QueryBuf = (BufType ∷ Count ∷ []) ∷ []
+forms_of UAlloc = (Memory ∷ Count ∷ Count ∷ []) ∷ []
+forms_of QBuf = map (λ more. BufType ∷ Count ∷ more) (each_optional extras)
+forms_of StreamOn = (BufType ∷ []) ∷ []
+forms_of StreamOff = (BufType ∷ []) ∷ []
+forms_of DqBuf = (BufType ∷ []) ∷ []
+forms_of Mmap = (Memory ∷ BufType ∷ Count ∷ []) ∷ (Memory ∷ BufType ∷ Count ∷ This (codes "ro") ∷ []) ∷ []
+forms_of Munmap = (Memory ∷ []) ∷ []
+forms_of Read = (Memory ∷ Count ∷ Between 1 256 ∷ []) ∷ []
+forms_of Hash = (Memory ∷ []) ∷ []
+forms_of Write = (Memory ∷ Count ∷ Hex ∷ []) ∷ []
+forms_of Fill = (Memory ∷ Between 0 255 ∷ []) ∷ []
+forms_of Subscribe = (Count ∷ []) ∷ []
+forms_of Unsubscribe = (Count ∷ []) ∷ []
+forms_of DqEvent = [] ∷ []
 
--- the statement of a verb and the words behind it, or the first fault; how many words there are comes first
+-- the name among these values, if there is one
+abbrev pub name_among : List Value → Option (List ℕ)
+name_among [] = None
+name_among (Named name ∷ vs) = Some name
+name_among (v ∷ vs) = name_among vs
+
+-- the number behind this word, or 0 where the word isn't there
+abbrev pub number_behind : List ℕ → List Value → ℕ
+number_behind word [] = 0
+number_behind word (Is this ∷ Counts n ∷ vs) = if bytes_eq this word then n else number_behind word vs
+number_behind word (v ∷ vs) = number_behind word vs
+
+-- what stands behind the index of a `qbuf`
+abbrev pub extras_of : List Value → Extras
+extras_of vs = record {
+  user = name_among vs;
+  used = number_behind (codes "used") vs;
+  ts = number_behind (codes "ts") vs;
+}
+
+-- a `qbuf` of a buffer of this type and index
+abbrev pub queued : ℕ → ℕ → Extras → Call
+queued t i more = Asks.QBuf t i more.user more.used more.ts
+
+-- what each verb asks with the values of one of its forms
+abbrev pub asked : Verb → List Value → Option Call
+asked Open [] = Some (Asks.OpenHandle false)
+asked Open (Is word ∷ []) = Some (Asks.OpenHandle true)
+asked Close [] = Some Asks.CloseHandle
+asked QueryCap [] = Some Asks.QueryCap
+asked EnumFmt (Counts t ∷ Counts i ∷ []) = Some (Asks.EnumFmt t i)
+asked GFmt (Counts t ∷ []) = Some (Asks.GFmt t)
+asked TryFmt (Counts t ∷ Counts f ∷ Counts w ∷ Counts h ∷ []) = Some (Asks.TryFmt t (record { 0 = f }) w h)
+asked SFmt (Counts t ∷ Counts f ∷ Counts w ∷ Counts h ∷ []) = Some (Asks.SFmt t (record { 0 = f }) w h)
+asked EnumInput (Counts i ∷ []) = Some (Asks.EnumInput i)
+asked GInput [] = Some Asks.GInput
+asked SInput (Counts i ∷ []) = Some (Asks.SInput i)
+asked ReqBufs (Counts t ∷ Counts m ∷ Counts n ∷ []) = Some (Asks.ReqBufs t m n)
+asked QueryBuf (Counts t ∷ Counts i ∷ []) = Some (Asks.QueryBuf t i)
+asked UAlloc (Named u ∷ Counts len ∷ Counts off ∷ []) = Some (Asks.UAlloc u len off)
+asked QBuf (Counts t ∷ Counts i ∷ vs) = Some (queued t i (extras_of vs))
+asked StreamOn (Counts t ∷ []) = Some (Asks.StreamOn t)
+asked StreamOff (Counts t ∷ []) = Some (Asks.StreamOff t)
+asked DqBuf (Counts t ∷ []) = Some (Asks.DqBuf t)
+asked Mmap (Named m ∷ Counts t ∷ Counts i ∷ []) = Some (Asks.Mmap m t i false)
+asked Mmap (Named m ∷ Counts t ∷ Counts i ∷ Is word ∷ []) = Some (Asks.Mmap m t i true)
+asked Munmap (Named m ∷ []) = Some (Asks.Munmap m)
+asked Read (Named m ∷ Counts off ∷ Counts len ∷ []) = Some (Asks.Peek m off len)
+asked Hash (Named m ∷ []) = Some (Asks.Hash m)
+asked Write (Named m ∷ Counts off ∷ Holds bytes ∷ []) = Some (Asks.Poke m off bytes)
+asked Fill (Named m ∷ Counts seed ∷ []) = Some (Asks.Fill m seed)
+asked Subscribe (Counts e ∷ []) = Some (Asks.Subscribe e)
+asked Unsubscribe (Counts e ∷ []) = Some (Asks.Unsubscribe e)
+asked DqEvent [] = Some Asks.DqEvent
+asked verb vs = None
+
+-- ---- statements
+
+-- the forms of a verb that have so many places
+abbrev pub forms_with : ℕ → Verb → List (List Place)
+forms_with n verb = filter (λ form. length form == n) (forms_of verb)
+
+-- the call that a verb asks with the words behind the handle's name
+abbrev pub call_in : Verb → List (List ℕ) → Result Call ScriptKind
+call_in verb words =
+    and_then (values_by (forms_with (length words) verb) words) (λ vs. ok_or (asked verb vs) Word)
+
+-- what the words behind the index of a `qbuf` are, where these may stand there
+abbrev pub extras_in : List (List Place) → List (List ℕ) → Result Extras ScriptKind
+extras_in parts words =
+    and_then (values_by (filter (λ form. length form == length words) (each_optional parts)) words)
+    (λ vs. Ok (extras_of vs))
+
+-- a `qbuf` of the buffer that these words name, with what stands behind them
+abbrev pub queued_in : List ℕ → List ℕ → Result Extras ScriptKind → Result Call ScriptKind
+queued_in type index more =
+    and_then (ok_or (type_in type) Number)
+    (λ t. and_then (ok_or (count_in index) Number) (λ i. and_then more (λ e. Ok (queued t i e))))
+
+-- a call on the handle of this name, which is judged first
+abbrev pub on : List ℕ → Result Call ScriptKind → Result Statement ScriptKind
+on handle call =
+    and_then (ok_or (name_in handle) Name)
+    (λ h. and_then call (λ c. Ok (record { handle = h; call = c })))
+
+-- The statement of a verb and the words behind it, or the first fault. How many words there are comes before what
+-- they are.
 abbrev pub statement_by : Verb → List (List ℕ) → Result Statement ScriptKind
-statement_by verb words =
-    if length words == length (form_of verb) then and_then (values_in (form_of verb) words) (λ vs. ok_or (asked verb vs) Word)
-    else Err Word
+statement_by verb [] = Err Word
+statement_by verb (handle ∷ words) =
+    if length (forms_with (length words) verb) == 0 then Err Word else on handle (call_in verb words)
 
 -- the statement that a line's words are, or the first fault that the line has by itself
 abbrev pub statement_in : List (List ℕ) → Result Statement ScriptKind
 statement_in [] = Err Word
-statement_in (verb ∷ words) = if is_unbuilt verb words then Err NotBuilt else and_then (ok_or (verb_of verb) Word) (λ v. statement_by v words)
+statement_in (first ∷ words) = and_then (ok_or (verb_of first) Word) (λ verb. statement_by verb words)
+
+-- the same, where a line that isn't built has that fault before any other
+abbrev pub built_statement_in : List (List ℕ) → Result Statement ScriptKind
+built_statement_in words = if is_built_line words then statement_in words else Err NotBuilt
 
 -- ---- echoes
 
+abbrev pub flag : Bool → ℕ
+flag true = 1
+flag false = 0
+
+abbrev pub optional_name : Option (List ℕ) → List ℕ
+optional_name None = 0 ∷ []
+optional_name (Some name) = 1 ∷ name
+
 -- a call as a list of numbers: one for its kind, and then what it carries
 abbrev pub call_numbers : Call → List ℕ
-call_numbers (Asks.OpenHandle nonblock) = 1 ∷ (if nonblock then 1 else 0) ∷ []
+call_numbers (Asks.OpenHandle nonblock) = 1 ∷ flag nonblock ∷ []
 call_numbers Asks.CloseHandle = 2 ∷ []
 call_numbers Asks.QueryCap = 3 ∷ []
 call_numbers (Asks.EnumFmt t i) = 4 ∷ t ∷ i ∷ []
@@ -140,7 +175,22 @@ call_numbers (Asks.SFmt t f w h) = 7 ∷ t ∷ f.0 ∷ w ∷ h ∷ []
 call_numbers (Asks.EnumInput i) = 8 ∷ i ∷ []
 call_numbers Asks.GInput = 9 ∷ []
 call_numbers (Asks.SInput i) = 10 ∷ i ∷ []
-call_numbers call = []
+call_numbers (Asks.ReqBufs t m n) = 11 ∷ t ∷ m ∷ n ∷ []
+call_numbers (Asks.QueryBuf t i) = 12 ∷ t ∷ i ∷ []
+call_numbers (Asks.UAlloc u len off) = 13 ∷ len ∷ off ∷ u
+call_numbers (Asks.QBuf t i user used ts) = 14 ∷ t ∷ i ∷ used ∷ ts ∷ optional_name user
+call_numbers (Asks.StreamOn t) = 15 ∷ t ∷ []
+call_numbers (Asks.StreamOff t) = 16 ∷ t ∷ []
+call_numbers (Asks.DqBuf t) = 17 ∷ t ∷ []
+call_numbers (Asks.Mmap m t i ro) = 18 ∷ t ∷ i ∷ flag ro ∷ m
+call_numbers (Asks.Munmap m) = 19 ∷ m
+call_numbers (Asks.Peek m off len) = 20 ∷ off ∷ len ∷ m
+call_numbers (Asks.Hash m) = 21 ∷ m
+call_numbers (Asks.Poke m off bytes) = 22 ∷ off ∷ length m ∷ (m ++ bytes)
+call_numbers (Asks.Fill m seed) = 23 ∷ seed ∷ m
+call_numbers (Asks.Subscribe e) = 24 ∷ e ∷ []
+call_numbers (Asks.Unsubscribe e) = 25 ∷ e ∷ []
+call_numbers Asks.DqEvent = 26 ∷ []
 
 -- the statement is this call on the handle of this name
 abbrev pub is_statement : List ℕ → Call → Result Statement ScriptKind → Bool
@@ -149,4 +199,4 @@ is_statement name call (Err kind) = false
 
 -- the text reads as this call on the handle of this name
 abbrev pub reads_as : List ℕ → List ℕ → Call → Bool
-reads_as echo name call = is_statement name call (statement_in (words_in echo))
+reads_as echo name call = is_statement name call (built_statement_in (words_in echo))

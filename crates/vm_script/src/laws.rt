@@ -6,8 +6,9 @@ ghost use Rattle.vm_script.specs.Grammar.{script_of};
 ghost use Rattle.vm_script.specs.Reading.{IsBuilt, IsReadProcess};
 ghost use Rattle.vm_script.specs.Script.{ProcessLines, ScriptLines};
 
-/// A script that was read is of one process, each of whose lines asks a call that is built on a handle that has a name;
-/// its handles are opened one after the other, each before it is asked anything.
+/// A script that was read is of one process, each of whose lines asks a call that is built on a
+/// handle that has a name. Its handles are opened one after the other, each before it is asked
+/// anything. A name of memory is declared once in its handle, and before any line that wants it.
 pub fn scripts_are_of_one_process()
     ensures { (bytes : List ℕ) → (s : ScriptLines) → script_of bytes ≡ Ok s → (p : ProcessLines) × (s ≡ record { model = Capture; processes = p ∷ [] }) × IsReadProcess p }
 {}

@@ -1,12 +1,15 @@
 //! Scripts: the lines that processes give to their handles.
 #![tactic(auto)]
 
+mod built;
 mod draft;
 mod echo;
+mod extras;
 mod fault;
 mod forms;
 mod laws;
 mod line;
+mod mention;
 mod names;
 mod number;
 mod reader;
@@ -24,5 +27,7 @@ pub use number::number_of;
 pub use reader::read_script;
 pub use script::{Process, STATEMENT_LIMIT, Script};
 
+#[cfg(test)]
+mod grammar_tests;
 #[cfg(test)]
 mod tests;

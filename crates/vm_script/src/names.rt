@@ -1,7 +1,7 @@
 //! Names that are found without going through them all.
 
 ghost use Rattle.std.specs.Prelude.{◌≡◌, ◌<◌, ◌++◌, [], ◌∷◌, length, IfSome, OnOk, OnErr};
-ghost use Rattle.vm_script.specs.Grammar.{place_from};
+ghost use Rattle.vm_script.specs.Names.{place_from};
 ghost use Rattle.vm_script.specs.Names.{key_of, IsShort};
 
 use std::alloc::Global;

@@ -26,7 +26,7 @@ fn fault_behind_open(alloc: Global, line: &[u8]) -> Result<Option<ScriptFault>, 
 
 #[test]
 fn tells_the_first_faulty_line(rt: HostRuntime) -> Result<(), Fail> {
-    let scripts: [(&[u8], u32, ScriptKind); 18] = [
+    let scripts: [(&[u8], u32, ScriptKind); 16] = [
         (b"open a\nsfm", 2, ScriptKind::Word),
         (b"open 9x\n", 1, ScriptKind::Name),
         (b"open a\nsinput a x\n", 2, ScriptKind::Number),
@@ -36,8 +36,6 @@ fn tells_the_first_faulty_line(rt: HostRuntime) -> Result<(), Fail> {
         (b"close a\nopen a\n", 1, ScriptKind::NotDeclared),
         (b"raw bytes 0100000000000000 16\n", 1, ScriptKind::NotBuilt),
         (b"proc\nproc\nproc\n", 1, ScriptKind::NotBuilt),
-        (b"open a\nopen a b\n", 2, ScriptKind::NotBuilt),
-        (b"open 9x y", 1, ScriptKind::NotBuilt),
         (b"# open a\nclose a\nopen 9x", 2, ScriptKind::NotDeclared),
         (b"\n\r\n \t\n\nopen A", 5, ScriptKind::Name),
         (b" # open a\n", 1, ScriptKind::Word),
@@ -59,7 +57,7 @@ fn tells_the_first_faulty_line(rt: HostRuntime) -> Result<(), Fail> {
 
 #[test]
 fn tells_the_first_fault_of_a_line(rt: HostRuntime) -> Result<(), Fail> {
-    let lines: [(&[u8], ScriptKind); 58] = [
+    let lines: [(&[u8], ScriptKind); 54] = [
         (b"Open b", ScriptKind::Word),
         (b"opens b", ScriptKind::Word),
         (b"ope b", ScriptKind::Word),
@@ -114,10 +112,6 @@ fn tells_the_first_fault_of_a_line(rt: HostRuntime) -> Result<(), Fail> {
         (b"sinput b x", ScriptKind::Number),
         (b"sinput b 0", ScriptKind::NotDeclared),
         (b"open a", ScriptKind::OpenTwice),
-        (b"open a nonblock", ScriptKind::NotBuilt),
-        (b"qbuf 9x cap", ScriptKind::NotBuilt),
-        (b"device capture", ScriptKind::NotBuilt),
-        (b"read a m 0 x", ScriptKind::NotBuilt),
     ];
     for (line, kind) in lines {
         let fault = fault_behind_open(rt.alloc(), line)?;
@@ -127,11 +121,32 @@ fn tells_the_first_fault_of_a_line(rt: HostRuntime) -> Result<(), Fail> {
 }
 
 #[test]
-fn does_not_read_what_is_not_built(rt: HostRuntime) -> Result<(), Fail> {
-    let verbs: [&[u8]; 19] = [
+fn does_not_read_lines_on_no_handle(rt: HostRuntime) -> Result<(), Fail> {
+    let lines: [&[u8]; 6] = [
         b"device",
+        b"device capture",
         b"proc",
         b"raw",
+        b"raw chain loop",
+        b"raw bytes 0100000000000000 16",
+    ];
+    for line in lines {
+        let fault = fault_behind_open(rt.alloc(), line)?;
+        let kind = ScriptKind::NotBuilt;
+        assert_eq!(rt; fault, Some(ScriptFault { line: 2, kind }));
+    }
+    Ok(())
+}
+
+/// Lines that aren't built, whatever the grammar says of their words.
+#[test]
+fn tells_first_what_is_not_built(rt: HostRuntime) -> Result<(), Fail> {
+    let lines: [&[u8]; 32] = [
+        b"device",
+        b"device capture",
+        b"proc",
+        b"raw",
+        b"raw chain loop",
         b"reqbufs",
         b"querybuf",
         b"ualloc",
@@ -148,9 +163,20 @@ fn does_not_read_what_is_not_built(rt: HostRuntime) -> Result<(), Fail> {
         b"subscribe",
         b"unsubscribe",
         b"dqevent",
+        b"open b c",
+        b"open 9x y",
+        b"open a nonblock",
+        b"qbuf 9x cap",
+        b"qbuf 9x cap 0 user",
+        b"qbuf a cap 0 user m",
+        b"qbuf b cap 0 used user",
+        b"reqbufs a cap map 1",
+        b"read a m 0 x",
+        b"read b m 0 1",
+        b"mmap a M cap 0",
     ];
-    for verb in verbs {
-        let fault = fault_behind_open(rt.alloc(), verb)?;
+    for line in lines {
+        let fault = fault_behind_open(rt.alloc(), line)?;
         let kind = ScriptKind::NotBuilt;
         assert_eq!(rt; fault, Some(ScriptFault { line: 2, kind }));
     }

@@ -11,7 +11,7 @@ use Rattle.v4l_layout.specs.Records.{fmtdesc_bytes, format_bytes, input_bytes}
 use Rattle.v4l_const.specs.declared.model.Model.{Model}
 use Rattle.v4l_const.specs.declared.model.Model.TheVariants.{Capture, Convert}
 use Rattle.vm_local.specs.declared.call.Call.{Call}
-use Rattle.vm_local.specs.declared.call.Call.TheVariants.{OpenHandle, CloseHandle, QueryCap, EnumFmt, GFmt, TryFmt, SFmt, EnumInput, GInput, SInput}
+use Rattle.vm_local.specs.declared.call.Call.TheVariants.{OpenHandle, CloseHandle, QueryCap, EnumFmt, GFmt, TryFmt, SFmt, EnumInput, GInput, SInput, QBuf}
 use Rattle.vm_local.specs.declared.reply.Reply.{Reply}
 use Rattle.vm_local.specs.declared.reply.Reply.TheVariants.{Done, Refused}
 use Rattle.vm_local.specs.State.{LocalState, opening}
@@ -369,4 +369,6 @@ done host seats n h handle line GInput c built here crosses vacant =
 done host seats n h handle line (SInput i) c built here crosses vacant =
     in_own host seats n h handle line (SInput i) Code.SInput (le i) c here (λ session reply payload. refl) refl
     (λ memory id session stands is_open. as_asked id line (local_of handle) (SInput i) session memory Code.SInput (le i) _ (sinput_reads session i built) (sinput_answers id line (local_of handle) session memory i stands is_open)) crosses
+done host seats n h handle line (QBuf t i None used ts) c built here crosses vacant = absurd built
+done host seats n h handle line (QBuf t i (Some user) used ts) c built here crosses vacant = absurd built
 done host seats n h handle line call c built here crosses vacant = absurd built

@@ -4,7 +4,7 @@ use Rattle.std.proofs.lemmas.Iterator.Splits.{YieldsList-from_slice_split}
 use Rattle.std.proofs.lemmas.Result.{err_from_is_err_and}
 use Rattle.std.proofs.lemmas.Grind.{common_steps}
 use Rattle.vm_script.specs.Words.{ends_line, lines_in}
-use Rattle.vm_script.proofs.LineLemmas.{with_line_fits, reads_more, gives_err, gives_ok}
+use Rattle.vm_script.proofs.LineLemmas.{reads_more, gives_err, gives_ok}
 use Rattle.vm_script.proofs.ReaderLemmas.{split_is_pieces}
 use Rattle.vm_script.proofs.reader.read_script.Goals as goal
 
@@ -17,7 +17,6 @@ loop-line-preserved c =
       can_next = search rules;
       is_finite = tt;
       counted = grind (arith, common_steps);
-      fits = with_line_fits c.loop-line.process _ (c.loop-line.number + 1) c.in-Some.line.now c.loop-line.invariant.fits gave;
       reads = reads_more c.loop-line.process _ c.loop-line.number (lines_in c.args.bytes.now) c.in-Some.line.now _ at.0 at.1 gave c.loop-line.invariant.reads;
     }
 

@@ -1,4 +1,4 @@
-use Rattle.std.proofs.Common.{◌≡◌, ◌+◌, ◌≤◌, length, drop}
+use Rattle.std.proofs.Common.{◌≡◌, ◌+◌, length, drop}
 use Rattle.vm_script.specs.Grammar.{lines_in, no_lines, with_lines}
 use Rattle.vm_script.proofs.reader.read_script.Given as goal
 
@@ -7,6 +7,5 @@ invariant-loop-line l = record {
   can_next : (goal.iterator-loop-line).can_next l.line-iterator;
   is_finite : (goal.iterator-loop-line).is_finite l.line-iterator;
   counted : l.number ≡ length l.yielded;
-  fits : length l.process.handles ≤ length l.process.lines;
   reads : with_lines l.process (l.number + 1) (drop l.number (lines_in l.bytes)) ≡ with_lines no_lines 1 (lines_in l.bytes);
 }

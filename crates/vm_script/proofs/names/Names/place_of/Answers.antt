@@ -1,7 +1,7 @@
 use Rattle.std.proofs.Common.{◌≡◌, ap, ◌∙◌}
 use Rattle.std.specs.BTreeMap.{is_at}
 use Rattle.std.specs.Map.{lookup}
-use Rattle.vm_script.specs.Grammar.{place_from}
+use Rattle.vm_script.specs.Names.{place_from}
 use Rattle.vm_script.specs.Names.{key_of, key_cmp}
 use Rattle.vm_script.proofs.NameLemmas.{place_is_within}
 use Rattle.vm_script.proofs.names.Names.place_of.Goals as goal

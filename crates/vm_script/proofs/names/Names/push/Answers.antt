@@ -1,6 +1,6 @@
 use Rattle.std.proofs.Common.{◌≡◌, [], ◌∷◌, ◌++◌, ap, ◌∙◌, length, rules, true, false}
 use Rattle.std.specs.Option.{is_some}
-use Rattle.vm_script.specs.Grammar.{place_from}
+use Rattle.vm_script.specs.Names.{place_from}
 use Rattle.vm_script.proofs.NameLemmas.{finds_again, finds_new}
 use Rattle.vm_script.proofs.names.Names.push.Goals as goal
 use Rattle.vm_script.proofs.names.Names.push.Goals.{then-is_none+in_ok-insert, else-is_none}
