@@ -38,7 +38,6 @@ use Rattle.vm_local.proofs.StepLemmas.{passes, answered_by, frame_made, frame_fa
 use Rattle.vm_home.specs.Reached.{IsReached, HasOneOwner}
 use Rattle.vm_home.proofs.PlaceLemmas.{or_left, or_right, map_relates, buffer_at, kind_at, HasAt, used_from, IsLess, QueueRelates, Relates, less_same, queue_same, relates_less, relates_set, has_less, busy_less}
 use Rattle.vm_home.proofs.RowLemmas.{IsSound, sound_of, has_queue, backed_at, device_made, is_user_named, bound_some, named_user, Stays, stays_row, frame_relates, given_there, given_relates, stopped_relates}
-
 use Rattle.vm_home.proofs.OwnLemmas.{IsBusyAt, IsDeviceAt, Owns, OwnsAll, IsFree, owns_less, owns_bare, bare_at, owns_renewed, owns_queued, number_made, user_made}
 
 -- ---- a buffer that may be queued

@@ -39,6 +39,7 @@ home_with_none s call home =
     take_none : (n : ℕ) → take {A = Held} n [] ≡ []
     take_none zero = refl
     take_none (suc n) = refl
+
     drop_none : (n : ℕ) → drop {A = Held} n [] ≡ []
     drop_none zero = refl
     drop_none (suc n) = refl
