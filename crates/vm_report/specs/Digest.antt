@@ -10,8 +10,8 @@ use Rattle.vm_local.specs.State.{LocalState, opening}
 use Rattle.vm_local.specs.Log.{after}
 use Rattle.vm_wire.specs.declared.command.Command.{Command}
 use Rattle.vm_wire.specs.Wire.{command_bytes, response_bytes}
-use Rattle.vm_handle.specs.Exchange.{command_of, response_to}
-use Rattle.vm_handle.specs.Handle.{HandleState}
+use Rattle.vm_rest_handle.specs.Exchange.{command_of, response_to}
+use Rattle.vm_rest_handle.specs.Handle.{HandleState}
 use Rattle.vm_script.specs.Script.{ScriptLines}
 use Rattle.vm_report.specs.Logs.{HandleLog, Logs, process_logs}
 

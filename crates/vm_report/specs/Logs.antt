@@ -5,7 +5,7 @@ use Rattle.vm_local.specs.declared.entry.Entry.{Entry}
 use Rattle.vm_region.specs.declared.entry.RegionEntry.{RegionEntry}
 use Rattle.vm_script.specs.declared.line.RawChain.{RawChain}
 use Rattle.vm_script.specs.Script.{ProcessLines}
-use Rattle.vm_handle.specs.Handle.{HandleState}
+use Rattle.vm_rest_handle.specs.Handle.{HandleState}
 
 -- One handle: its process, its name, the session's id where an open was answered ok, and its log.
 pub record HandleLog : Type 0 where

@@ -2,7 +2,7 @@
 
 ghost use Rattle.std.specs.Prelude.{◌≤◌, ◌*◌, ℕ, List, length};
 ghost use Rattle.vm_script.specs.Script.{ScriptLines};
-ghost use Rattle.vm_guest.specs.Guest.{IsReadScript};
+ghost use Rattle.vm_rest_guest.specs.Guest.{IsReadScript};
 ghost use Rattle.vm_world.specs.World.{WorldState, IsOpening, Leads, statement_count};
 ghost use Rattle.vm_world.specs.declared.step.Step.{Step};
 ghost use Rattle.vm_sched.specs.Schedule.{Schedules};

@@ -3,7 +3,7 @@ use Rattle.std.proofs.Common.{◌≡◌, ◌≢◌, ℕ, zero, suc, ◌<◌, ◌
 use Rattle.std.proofs.lemmas.Bool.{cases_eq}
 use Rattle.std.proofs.lemmas.List.{length-append, length-set, get_or-set_same, get_or-set_other}
 use Rattle.vm_local.specs.State.{LocalState}
-use Rattle.vm_session.specs.declared.session.Session.{Session}
+use Rattle.vm_rest_session.specs.declared.session.Session.{Session}
 use Rattle.vm_world.specs.Sound.{Seat, seat_at, session_in, StandsFor, SeatedBy, IsSeated, Agrees}
 use Rattle.vm_world.proofs.SeatLemmas.{with_seat, IsPlace, by_seat, seat_same}
 

@@ -17,9 +17,9 @@ use Rattle.vm_local.specs.Log.{row_for, IsCall}
 use Rattle.vm_wire.specs.Records.{capability_of, fmt_desc_answer, format_answer}
 use Rattle.vm_wire.specs.Wire.{le}
 use Rattle.vm_wire.specs.declared.response.Response.TheVariants.{Answered}
-use Rattle.vm_handle.specs.Exchange.{response_to}
-use Rattle.vm_session.specs.declared.session.Session.{Session}
-use Rattle.vm_session.specs.Session as S
+use Rattle.vm_rest_handle.specs.Exchange.{response_to}
+use Rattle.vm_rest_session.specs.declared.session.Session.{Session}
+use Rattle.vm_rest_session.specs.Session as S
 use Rattle.vm_world.specs.Sound.{Stands}
 use Rattle.vm_world.proofs.LocalLemmas.{answers_row, refused_row}
 use Rattle.vm_world.proofs.StandsLemmas.{queue_alike, no_buffers, not_streaming, no_buffers_there, not_streaming_there, adjusted_alike, set_alike}

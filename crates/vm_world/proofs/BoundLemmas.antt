@@ -7,13 +7,13 @@ use Rattle.vm_wire.specs.Message.{Ask, Request, Reply}
 use Rattle.vm_wire.specs.Message.Ask.{Unusable, Judged}
 use Rattle.v4l_const.specs.declared.model.Model.{Model}
 use Rattle.vm_script.specs.Script.{ProcessLines}
-use Rattle.vm_guest.specs.declared.status.Status.{Status}
-use Rattle.vm_guest.specs.declared.status.Status.TheVariants.{AtRest, Crossing}
-use Rattle.vm_guest.specs.Asking.{statement_of}
-use Rattle.vm_guest.specs.Process.{ProcessState, is_at_rest, begun}
-use Rattle.vm_guest.specs.Guest.{no_process, no_lines, process_in, process_at, lines_at}
-use Rattle.vm_guest.specs.Orderly.{IsOrderly}
-use Rattle.vm_guest.proofs.OrderlyLemmas.{begun_crossing}
+use Rattle.vm_rest_guest.specs.declared.status.Status.{Status}
+use Rattle.vm_rest_guest.specs.declared.status.Status.TheVariants.{AtRest, Crossing}
+use Rattle.vm_rest_guest.specs.Asking.{statement_of}
+use Rattle.vm_rest_guest.specs.Process.{ProcessState, is_at_rest, begun}
+use Rattle.vm_rest_guest.specs.Guest.{no_process, no_lines, process_in, process_at, lines_at}
+use Rattle.vm_rest_guest.specs.Orderly.{IsOrderly}
+use Rattle.vm_rest_guest.proofs.OrderlyLemmas.{begun_crossing}
 use Rattle.vm_world.specs.World.{WorldState, IsDone, is_some_of, enabled, is_enabled, request_weight, unbegun, left_of, statement_count}
 use Rattle.vm_world.specs.Sound.{crossing_count, IsSound}
 use Rattle.vm_world.specs.declared.step.Step.TheVariants.{Execute, Collect}

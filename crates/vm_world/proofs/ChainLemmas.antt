@@ -16,11 +16,11 @@ use Rattle.vm_wire.specs.declared.command.Command.TheVariants.{OpenSession, Clos
 use Rattle.vm_wire.specs.declared.response.Response.{Response}
 use Rattle.vm_wire.proofs.WireLemmas.{command_again, command_fits, room_fits, reply_fits, response_again}
 use Rattle.vm_wire.proofs.DecidedLemmas.{judged_only}
-use Rattle.vm_host.specs.Carrier.{readable_of, written}
-use Rattle.vm_host.specs.Sessions.{HostState}
-use Rattle.vm_host.specs.Host.{Answer, AnswersTo, Performs, Sent, chain_in, asked_by, Serves, sent_with}
-use Rattle.vm_host.specs.Part.{ask_by, request_of}
-use Rattle.vm_guest.specs.Chain.{command_page, reply_page, chain_of, chain_table, chain_pages, IsChain, Carries, reply_of}
+use Rattle.vm_rest_host.specs.Carrier.{readable_of, written}
+use Rattle.vm_rest_host.specs.Sessions.{HostState}
+use Rattle.vm_rest_host.specs.Host.{Answer, AnswersTo, Performs, Sent, chain_in, asked_by, Serves, sent_with}
+use Rattle.vm_rest_host.specs.Part.{ask_by, request_of}
+use Rattle.vm_rest_guest.specs.Chain.{command_page, reply_page, chain_of, chain_table, chain_pages, IsChain, Carries, reply_of}
 
 pub take-front : {A : Type 0} (xs ys : List A) → take (length xs) (xs ++ ys) ≡ xs
 take-front [] ys = refl

@@ -24,18 +24,18 @@ use Rattle.vm_wire.specs.declared.command.Command.{Command}
 use Rattle.vm_wire.specs.declared.command.Command.TheVariants.{OpenSession, CloseSession, Ioctl}
 use Rattle.vm_wire.specs.declared.response.Response.{Response}
 use Rattle.vm_wire.specs.declared.response.Response.TheVariants.{Refused as Denied, Opened, Closed, Answered}
-use Rattle.vm_session.specs.declared.session.Session.{Session}
-use Rattle.vm_session.specs.Session as S
-use Rattle.vm_session.proofs.ReadBackLemmas.{enumfmt_reads, gfmt_reads, tryfmt_reads, sfmt_reads, enuminput_reads, sinput_reads}
-use Rattle.vm_session.proofs.SizeLemmas.{answer_length}
+use Rattle.vm_rest_session.specs.declared.session.Session.{Session}
+use Rattle.vm_rest_session.specs.Session as S
+use Rattle.vm_rest_session.proofs.ReadBackLemmas.{enumfmt_reads, gfmt_reads, tryfmt_reads, sfmt_reads, enuminput_reads, sinput_reads}
+use Rattle.vm_rest_session.proofs.SizeLemmas.{answer_length}
 use Rattle.vm_wire.proofs.RecordLemmas.{fmt_desc_request_length, format_request_length, format_type_request_length, input_request_length}
-use Rattle.vm_host.specs.Sessions.{HostState}
-use Rattle.vm_host.specs.Host.{Answer, Performs, opened as session_opened, closed as session_closed, called as served, in_session, with_session, without_session, session_of, is_mapping}
-use Rattle.vm_handle.specs.Exchange.{response_to, crossing}
-use Rattle.vm_handle.specs.declared.way.Way.TheVariants.{Crosses, AnsweredHere}
-use Rattle.vm_handle.specs.Handle.{HandleState, local_of, asks, IsAnswer, session_from, with_entry, with_reply}
-use Rattle.vm_handle.proofs.LogLemmas.{pushed}
-use Rattle.vm_handle.proofs.RangeLemmas.{local_model}
+use Rattle.vm_rest_host.specs.Sessions.{HostState}
+use Rattle.vm_rest_host.specs.Host.{Answer, Performs, opened as session_opened, closed as session_closed, called as served, in_session, with_session, without_session, session_of, is_mapping}
+use Rattle.vm_rest_handle.specs.Exchange.{response_to, crossing}
+use Rattle.vm_rest_handle.specs.declared.way.Way.TheVariants.{Crosses, AnsweredHere}
+use Rattle.vm_rest_handle.specs.Handle.{HandleState, local_of, asks, IsAnswer, session_from, with_entry, with_reply}
+use Rattle.vm_rest_handle.proofs.LogLemmas.{pushed}
+use Rattle.vm_rest_handle.proofs.RangeLemmas.{local_model}
 use Rattle.vm_script.specs.Reading.{IsBuilt}
 use Rattle.vm_local.specs.Log.{IsLegal}
 use Rattle.vm_local.specs.declared.entry.Entry.TheVariants.{Called}

@@ -8,13 +8,13 @@ use Rattle.std.proofs.lemmas.List.Elements.{All-from_get_or}
 use Rattle.std.proofs.lemmas.List.Sums.{sum_by-cons}
 use Rattle.v4l_const.specs.declared.model.Model.{Model}
 use Rattle.vm_script.specs.Script.{ProcessLines, ScriptLines}
-use Rattle.vm_guest.specs.declared.status.Status.{Status}
-use Rattle.vm_guest.specs.declared.status.Status.TheVariants.{AtRest, Crossing}
-use Rattle.vm_guest.specs.Asking.{statement_of}
-use Rattle.vm_guest.specs.Process.{ProcessState, is_at_rest, begun, is_done, can_issue}
-use Rattle.vm_guest.specs.Guest.{no_process, process_in, process_at, lines_at}
-use Rattle.vm_guest.specs.Orderly.{IsOrderly}
-use Rattle.vm_guest.proofs.OrderlyLemmas.{begun_at_rest}
+use Rattle.vm_rest_guest.specs.declared.status.Status.{Status}
+use Rattle.vm_rest_guest.specs.declared.status.Status.TheVariants.{AtRest, Crossing}
+use Rattle.vm_rest_guest.specs.Asking.{statement_of}
+use Rattle.vm_rest_guest.specs.Process.{ProcessState, is_at_rest, begun, is_done, can_issue}
+use Rattle.vm_rest_guest.specs.Guest.{no_process, process_in, process_at, lines_at}
+use Rattle.vm_rest_guest.specs.Orderly.{IsOrderly}
+use Rattle.vm_rest_guest.proofs.OrderlyLemmas.{begun_at_rest}
 use Rattle.vm_world.proofs.TurnLemmas.{current_some, next_current}
 use Rattle.vm_world.specs.World.{WorldState, IsDone, issues_from, is_some_of, listed, enabled, is_enabled}
 use Rattle.vm_world.specs.Sound.{crossing_count, IsSoundOf}

@@ -6,11 +6,11 @@ use Rattle.vm_local.specs.declared.entry.Entry.{Entry}
 use Rattle.vm_local.specs.declared.entry.Entry.TheVariants.{Called}
 use Rattle.vm_wire.specs.Message.{Request, Reply}
 use Rattle.vm_wire.specs.declared.command.Command.{Command}
-use Rattle.vm_handle.specs.Handle.{HandleState}
-use Rattle.vm_guest.specs.declared.asked.Asked.{Asked}
-use Rattle.vm_guest.specs.Process.{ProcessState, no_handle, handle_in, handle_at, crosses_by, with_handle, sent, answered_here}
-use Rattle.vm_guest.specs.Guest.{GuestState, no_process, process_at, with_process, Posting, issued, Collected}
-use Rattle.vm_guest.proofs.GuestLemmas.{begun_as}
+use Rattle.vm_rest_handle.specs.Handle.{HandleState}
+use Rattle.vm_rest_guest.specs.declared.asked.Asked.{Asked}
+use Rattle.vm_rest_guest.specs.Process.{ProcessState, no_handle, handle_in, handle_at, crosses_by, with_handle, sent, answered_here}
+use Rattle.vm_rest_guest.specs.Guest.{GuestState, no_process, process_at, with_process, Posting, issued, Collected}
+use Rattle.vm_rest_guest.proofs.GuestLemmas.{begun_as}
 use Rattle.vm_world.specs.World.{WorldState, Executes, Collects, Steps, log_of}
 use Rattle.vm_world.specs.declared.step.Step.{Step}
 use Rattle.vm_world.specs.declared.step.Step.TheVariants.{Issue, Execute, Collect}

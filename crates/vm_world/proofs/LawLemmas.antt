@@ -12,13 +12,13 @@ use Rattle.vm_wire.specs.declared.command.Command.TheVariants.{OpenSession, Clos
 use Rattle.v4l_const.specs.declared.ioctl_code.IoctlCode.TheVariants.{QBuf}
 use Rattle.vm_script.specs.Script.{ProcessLines, ScriptLines}
 use Rattle.v4l_const.specs.declared.model.Model.{Model}
-use Rattle.vm_host.specs.Host.{fresh_host}
-use Rattle.vm_guest.specs.declared.asked.Asked.{Asked}
-use Rattle.vm_guest.specs.Asking.{statement_of}
-use Rattle.vm_guest.specs.Process.{ProcessState, begun, next, can_issue, crosses_by, IsFresh}
-use Rattle.vm_guest.specs.Guest.{GuestState, no_process, no_lines, process_in, process_at, IsReadScript, lines_at, IsDriver, Posting, begins_asked, issued, Collected}
-use Rattle.vm_guest.proofs.OrderlyLemmas.{begun_at_rest, orderly_sent, orderly_answered}
-use Rattle.vm_guest.proofs.GuestLemmas.{fresh_driver, begun_as, driver_with, kept_answered}
+use Rattle.vm_rest_host.specs.Host.{fresh_host}
+use Rattle.vm_rest_guest.specs.declared.asked.Asked.{Asked}
+use Rattle.vm_rest_guest.specs.Asking.{statement_of}
+use Rattle.vm_rest_guest.specs.Process.{ProcessState, begun, next, can_issue, crosses_by, IsFresh}
+use Rattle.vm_rest_guest.specs.Guest.{GuestState, no_process, no_lines, process_in, process_at, IsReadScript, lines_at, IsDriver, Posting, begins_asked, issued, Collected}
+use Rattle.vm_rest_guest.proofs.OrderlyLemmas.{begun_at_rest, orderly_sent, orderly_answered}
+use Rattle.vm_rest_guest.proofs.GuestLemmas.{fresh_driver, begun_as, driver_with, kept_answered}
 use Rattle.vm_world.specs.World.{WorldState, Executes, Collects, Steps, Leads, issues_from, listed, enabled, is_enabled, is_some_of, request_weight, unbegun, left_of, handle_count, statement_count, IsOpening}
 use Rattle.vm_world.specs.declared.step.Step.{Step}
 use Rattle.vm_world.specs.declared.step.Step.TheVariants.{Issue, Execute, Collect}

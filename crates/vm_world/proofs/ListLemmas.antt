@@ -4,8 +4,8 @@ use Rattle.std.specs.List.{filter}
 use Rattle.std.proofs.lemmas.Bool.{cases_eq, ne_eqb}
 use Rattle.std.proofs.lemmas.List.{append-nil, length-set, get_or-set_same, get_or-set_other}
 use Rattle.std.proofs.lemmas.List.Elements.{filter-append}
-use Rattle.vm_guest.specs.Process.{ProcessState}
-use Rattle.vm_guest.specs.Guest.{no_process, process_in}
+use Rattle.vm_rest_guest.specs.Process.{ProcessState}
+use Rattle.vm_rest_guest.specs.Guest.{no_process, process_in}
 
 -- the elements that are of a process
 abbrev pub of : {A : Type 0} → (A → ℕ) → ℕ → List A → List A

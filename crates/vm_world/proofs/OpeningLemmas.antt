@@ -6,12 +6,12 @@ use Rattle.std.proofs.lemmas.List.{take_more, length-map, get_or-map, get_or_pas
 use Rattle.std.proofs.lemmas.List.Elements.{All-nil, All-from_get_or}
 use Rattle.std.proofs.lemmas.List.Sums.{sum_by-cons, sum_by-le, sum_by_push, sum_by-take-le}
 use Rattle.v4l_const.specs.declared.model.Model.{Model}
-use Rattle.vm_handle.specs.Handle.{HandleState}
+use Rattle.vm_rest_handle.specs.Handle.{HandleState}
 use Rattle.vm_link.specs.Queue.{Queue}
 use Rattle.vm_link.specs.declared.chains.DoneChain.{DoneChain}
-use Rattle.vm_host.specs.Host.{fresh_host}
-use Rattle.vm_host.specs.Part.{request_of}
-use Rattle.vm_host.specs.Sessions.{HostState}
+use Rattle.vm_rest_host.specs.Host.{fresh_host}
+use Rattle.vm_rest_host.specs.Part.{request_of}
+use Rattle.vm_rest_host.specs.Sessions.{HostState}
 use Rattle.vm_script.specs.Reading.{IsReadProcess, opens, opens_in}
 use Rattle.vm_script.specs.Grammar.{script_of}
 use Rattle.vm_script.proofs.ScriptLemmas.{read_process}
@@ -20,11 +20,11 @@ use Rattle.vm_script.specs.declared.line.Line.{Line}
 use Rattle.vm_script.specs.declared.line.LineKind.{LineKind}
 use Rattle.vm_script.specs.declared.line.LineKind.TheVariants.{OnHandle, Raw}
 use Rattle.vm_local.specs.declared.call.Call.TheVariants.{OpenHandle}
-use Rattle.vm_guest.specs.declared.asked.Asked.{Asked}
-use Rattle.vm_guest.specs.Chain.{reply_of}
-use Rattle.vm_guest.specs.Process.{ProcessState, crossing, is_at_rest, no_handle, handle_at, IsFresh}
-use Rattle.vm_guest.specs.Guest.{GuestState, no_process, process_at, no_lines, lines_at, process_limit, IsReadScript, IsDriver, IsFreshGuest}
-use Rattle.vm_guest.proofs.OrderlyLemmas.{crossing_at_rest}
+use Rattle.vm_rest_guest.specs.declared.asked.Asked.{Asked}
+use Rattle.vm_rest_guest.specs.Chain.{reply_of}
+use Rattle.vm_rest_guest.specs.Process.{ProcessState, crossing, is_at_rest, no_handle, handle_at, IsFresh}
+use Rattle.vm_rest_guest.specs.Guest.{GuestState, no_process, process_at, no_lines, lines_at, process_limit, IsReadScript, IsDriver, IsFreshGuest}
+use Rattle.vm_rest_guest.proofs.OrderlyLemmas.{crossing_at_rest}
 use Rattle.vm_world.specs.World.{WorldState, handle_count}
 use Rattle.vm_world.specs.Carried.{command_room, IsEmpty, world_of, CarriesCommand, IsBack, IsCarried}
 use Rattle.vm_world.specs.Sound.{Seat, seat_of, no_seat, seat_at, IsSeated, SeatedBy, Agrees, IsOffTheLink, Ahead, stage_on, crossing_count, session_count, IsSoundProcess, IsSoundOf}

@@ -13,13 +13,13 @@ use Rattle.vm_wire.specs.Message.Ask.{Judged}
 use Rattle.vm_wire.specs.Wire.{response_bytes, Answers as MayReply}
 use Rattle.vm_wire.specs.declared.command.Command.{Command}
 use Rattle.vm_wire.specs.declared.response.Response.{Response}
-use Rattle.vm_handle.specs.Handle.{HandleState, local_of, way_from, IsAnswer, with_line, with_sent, with_entry, with_reply}
-use Rattle.vm_handle.specs.declared.sent.Sent.{Sent}
-use Rattle.vm_handle.specs.declared.way.Way.TheVariants.{AnsweredHere}
-use Rattle.vm_handle.proofs.LogLemmas.{pushed, closed_refuses}
-use Rattle.vm_guest.specs.declared.asked.Asked.{Asked}
-use Rattle.vm_guest.specs.Process.{ProcessState, next, crossing, no_handle, handle_in, handle_at, way_by, crosses_by, with_handle, with_answer, sent, answered_here, replied}
-use Rattle.vm_guest.proofs.OrderlyLemmas.{next_is, crossing_at_rest}
+use Rattle.vm_rest_handle.specs.Handle.{HandleState, local_of, way_from, IsAnswer, with_line, with_sent, with_entry, with_reply}
+use Rattle.vm_rest_handle.specs.declared.sent.Sent.{Sent}
+use Rattle.vm_rest_handle.specs.declared.way.Way.TheVariants.{AnsweredHere}
+use Rattle.vm_rest_handle.proofs.LogLemmas.{pushed, closed_refuses}
+use Rattle.vm_rest_guest.specs.declared.asked.Asked.{Asked}
+use Rattle.vm_rest_guest.specs.Process.{ProcessState, next, crossing, no_handle, handle_in, handle_at, way_by, crosses_by, with_handle, with_answer, sent, answered_here, replied}
+use Rattle.vm_rest_guest.proofs.OrderlyLemmas.{next_is, crossing_at_rest}
 use Rattle.vm_world.specs.Sound.{Seat, no_seat, seat_of, Stage, IsOut, IsAsking, IsTold, Ahead, stage_from, stage_on, IsOffTheLink, IsResting, IsSoundProcess}
 use Rattle.vm_world.specs.Sound.Stage.{Resting}
 

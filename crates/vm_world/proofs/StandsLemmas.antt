@@ -8,8 +8,8 @@ use Rattle.v4l_rules.specs.Queues.{queue_at}
 use Rattle.v4l_rules.proofs.SeenLemmas.{Sees, queue_seen, set_seen, taken_seen}
 use Rattle.vm_local.specs.State.{QueueState, LocalState, queue_kind, queue_of}
 use Rattle.vm_local.specs.Queue.{is_empty, has_buffers, is_streaming, adjusted_for, with_set_format}
-use Rattle.vm_session.specs.declared.session.Session.{Session}
-use Rattle.vm_session.specs.Session as S
+use Rattle.vm_rest_session.specs.declared.session.Session.{Session}
+use Rattle.vm_rest_session.specs.Session as S
 use Rattle.vm_world.specs.Sound.{Stands, opened_with, fresh_with}
 
 -- the handle's queues are the session's, seen without buffers

@@ -19,23 +19,23 @@ use Rattle.vm_wire.specs.Message.Ask.{Unusable, Judged}
 use Rattle.vm_wire.specs.Wire.{IsCommand, command_bytes}
 use Rattle.vm_wire.specs.declared.command.Command.{Command}
 use Rattle.vm_wire.specs.declared.command.CmdFault.{CmdFault}
-use Rattle.vm_host.specs.Sessions.{HostState}
-use Rattle.vm_host.specs.Host.{Answer, Executes as HostExecutes, HasPlace, HasPlaceFor, HasRoom, MadeFew, EachMadeFew, sent_with, chain_in, asked_by, Sent, done_as, moved_on}
-use Rattle.vm_host.specs.Part.{ExecutedAsk, ask_by, request_of, finishing}
+use Rattle.vm_rest_host.specs.Sessions.{HostState}
+use Rattle.vm_rest_host.specs.Host.{Answer, Executes as HostExecutes, HasPlace, HasPlaceFor, HasRoom, MadeFew, EachMadeFew, sent_with, chain_in, asked_by, Sent, done_as, moved_on}
+use Rattle.vm_rest_host.specs.Part.{ExecutedAsk, ask_by, request_of, finishing}
 use Rattle.vm_script.specs.Script.{ScriptLines}
-use Rattle.vm_guest.specs.declared.asked.Asked.{Asked}
-use Rattle.vm_guest.specs.Chain.{chain_table, IsChain, Carries, reply_of, reply_bytes}
-use Rattle.vm_guest.specs.Process.{ProcessState, next, way_by, crosses_by, sent, answered_here, Begins, Issues, CanPost, HasRoomFor, RepliesTo, IsReplyTo}
-use Rattle.vm_guest.specs.Guest.{GuestState, process_at, with_process, begins, begins_asked, issued, IssuesAt, Collects as GuestCollects, IsReply}
-use Rattle.vm_handle.specs.Exchange.{crossing as crossing_by}
-use Rattle.vm_handle.specs.declared.way.Way.{Way}
-use Rattle.vm_handle.specs.declared.way.Way.TheVariants.{Crosses, AnsweredHere, Waits, TouchesMemory, NotBuilt}
-use Rattle.vm_guest.proofs.GuestLemmas.{begun_as}
+use Rattle.vm_rest_guest.specs.declared.asked.Asked.{Asked}
+use Rattle.vm_rest_guest.specs.Chain.{chain_table, IsChain, Carries, reply_of, reply_bytes}
+use Rattle.vm_rest_guest.specs.Process.{ProcessState, next, way_by, crosses_by, sent, answered_here, Begins, Issues, CanPost, HasRoomFor, RepliesTo, IsReplyTo}
+use Rattle.vm_rest_guest.specs.Guest.{GuestState, process_at, with_process, begins, begins_asked, issued, IssuesAt, Collects as GuestCollects, IsReply}
+use Rattle.vm_rest_handle.specs.Exchange.{crossing as crossing_by}
+use Rattle.vm_rest_handle.specs.declared.way.Way.{Way}
+use Rattle.vm_rest_handle.specs.declared.way.Way.TheVariants.{Crosses, AnsweredHere, Waits, TouchesMemory, NotBuilt}
+use Rattle.vm_rest_guest.proofs.GuestLemmas.{begun_as}
 use Rattle.vm_world.specs.World.{WorldState, Turns, Executes, Collects}
 use Rattle.vm_world.specs.declared.step.Step.{Step}
 use Rattle.vm_world.specs.declared.step.Step.TheVariants.{Issue, Execute, Collect}
 use Rattle.vm_local.specs.State.{LocalState}
-use Rattle.vm_session.specs.declared.session.Session.{Session}
+use Rattle.vm_rest_session.specs.declared.session.Session.{Session}
 use Rattle.vm_world.specs.Sound.{IsSoundOf, Seat, seat_at, session_in, StandsIf, SeatedBy}
 use Rattle.vm_world.specs.Carried.{IsEmpty, world_of, CarriesCommand, IsBack, IsCarried}
 use Rattle.vm_world.proofs.ChainLemmas.{request_posted, served_posted, brought}

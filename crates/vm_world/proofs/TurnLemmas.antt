@@ -17,16 +17,16 @@ use Rattle.vm_wire.specs.declared.command.Command.TheVariants.{OpenSession, Clos
 use Rattle.v4l_const.specs.declared.ioctl_code.IoctlCode.TheVariants.{QBuf}
 use Rattle.v4l_const.specs.declared.model.Model.{Model}
 use Rattle.vm_script.specs.Script.{ProcessLines, ScriptLines}
-use Rattle.vm_guest.specs.declared.asked.Asked.{Asked}
-use Rattle.vm_guest.specs.declared.asked.Statement.{Statement}
-use Rattle.vm_guest.specs.declared.status.Status.TheVariants.{AtRest}
-use Rattle.vm_guest.specs.Asking.{asked_by, asked_at}
-use Rattle.vm_guest.specs.Process.{ProcessState, is_at_rest, begun, current, next, issuing, can_issue, crosses_by, sent, answered_here, Issues}
-use Rattle.vm_guest.specs.Orderly.{IsOrderly}
-use Rattle.vm_guest.specs.Guest.{GuestState, no_process, process_at, with_process, IsDriver, IssuesAt, Collected}
-use Rattle.vm_guest.proofs.LinesLemmas.{some_asked}
-use Rattle.vm_guest.proofs.OrderlyLemmas.{next_is, crossing_is, begun_at_rest, begun_crossing, asks_read, built_untouched}
-use Rattle.vm_guest.proofs.GuestLemmas.{begun_as}
+use Rattle.vm_rest_guest.specs.declared.asked.Asked.{Asked}
+use Rattle.vm_rest_guest.specs.declared.asked.Statement.{Statement}
+use Rattle.vm_rest_guest.specs.declared.status.Status.TheVariants.{AtRest}
+use Rattle.vm_rest_guest.specs.Asking.{asked_by, asked_at}
+use Rattle.vm_rest_guest.specs.Process.{ProcessState, is_at_rest, begun, current, next, issuing, can_issue, crosses_by, sent, answered_here, Issues}
+use Rattle.vm_rest_guest.specs.Orderly.{IsOrderly}
+use Rattle.vm_rest_guest.specs.Guest.{GuestState, no_process, process_at, with_process, IsDriver, IssuesAt, Collected}
+use Rattle.vm_rest_guest.proofs.LinesLemmas.{some_asked}
+use Rattle.vm_rest_guest.proofs.OrderlyLemmas.{next_is, crossing_is, begun_at_rest, begun_crossing, asks_read, built_untouched}
+use Rattle.vm_rest_guest.proofs.GuestLemmas.{begun_as}
 use Rattle.vm_world.specs.World.{WorldState, Turns, Executes, Collects, after_posting, weight_of, request_weight, unbegun, left_of, turn_by}
 use Rattle.vm_world.specs.declared.step.Step.TheVariants.{Issue, Execute, Collect}
 use Rattle.vm_world.specs.Sound.{IsSoundOf}

@@ -19,28 +19,28 @@ use Rattle.vm_wire.specs.Wire.{response_bytes, response_of, response_len, IsComm
 use Rattle.vm_wire.specs.declared.command.Command.{Command}
 use Rattle.vm_wire.specs.declared.command.Command.TheVariants.{OpenSession, CloseSession, Ioctl, Map, Unmap}
 use Rattle.vm_wire.specs.declared.response.Response.{Response}
-use Rattle.vm_host.specs.Host.{Answer, Performs, HasPlaceFor}
-use Rattle.vm_host.specs.Part.{Finishing, Executed, ExecutedAsk, finishing}
+use Rattle.vm_rest_host.specs.Host.{Answer, Performs, HasPlaceFor}
+use Rattle.vm_rest_host.specs.Part.{Finishing, Executed, ExecutedAsk, finishing}
 use Rattle.v4l_const.specs.declared.ioctl_code.IoctlCode.{IoctlCode}
-use Rattle.vm_handle.specs.Exchange.{command_of, crossing as crossing_by}
-use Rattle.vm_handle.specs.declared.way.Way.TheVariants.{Crosses, AnsweredHere, NotBuilt}
-use Rattle.vm_handle.specs.Handle.{HandleState, local_of, asks, has_opened, IsAnswer, MayAnswer, with_reply}
-use Rattle.vm_handle.specs.declared.sent.Sent.{Sent}
+use Rattle.vm_rest_handle.specs.Exchange.{command_of, crossing as crossing_by}
+use Rattle.vm_rest_handle.specs.declared.way.Way.TheVariants.{Crosses, AnsweredHere, NotBuilt}
+use Rattle.vm_rest_handle.specs.Handle.{HandleState, local_of, asks, has_opened, IsAnswer, MayAnswer, with_reply}
+use Rattle.vm_rest_handle.specs.declared.sent.Sent.{Sent}
 use Rattle.vm_script.specs.Lines.{lines_of, calls_of}
 use Rattle.vm_script.specs.Reading.{IsBuilt}
 use Rattle.vm_script.specs.Script.{ProcessLines, ScriptLines}
 use Rattle.vm_script.specs.declared.line.LineKind.TheVariants.{OnHandle}
 use Rattle.vm_script.proofs.ScriptLemmas.{none_before_open}
-use Rattle.vm_guest.specs.declared.asked.Asked.{Asked}
-use Rattle.vm_guest.specs.declared.status.Status.{Status}
-use Rattle.vm_guest.specs.declared.status.Status.TheVariants.{AtRest, Crossing}
-use Rattle.vm_guest.specs.Asking.{asked_at, statements_of}
-use Rattle.vm_guest.specs.Process.{ProcessState, is_at_rest, current, next, crossing, handle_at, way_by, crosses_by, sent, answered_here, replied, IsAnswered}
-use Rattle.vm_guest.specs.Orderly.{out_on}
-use Rattle.vm_guest.specs.Guest.{GuestState, no_process, process_in, process_at, with_process, lines_at, IsDriver, Posting, begins_asked, issued, Collected}
-use Rattle.vm_guest.proofs.LinesLemmas.{asking_line}
-use Rattle.vm_guest.proofs.OrderlyLemmas.{next_is, crossing_is, here_is, crossing_at_rest, asks_read, out_same}
-use Rattle.vm_guest.proofs.GuestLemmas.{process_past, begun_as, begins_as}
+use Rattle.vm_rest_guest.specs.declared.asked.Asked.{Asked}
+use Rattle.vm_rest_guest.specs.declared.status.Status.{Status}
+use Rattle.vm_rest_guest.specs.declared.status.Status.TheVariants.{AtRest, Crossing}
+use Rattle.vm_rest_guest.specs.Asking.{asked_at, statements_of}
+use Rattle.vm_rest_guest.specs.Process.{ProcessState, is_at_rest, current, next, crossing, handle_at, way_by, crosses_by, sent, answered_here, replied, IsAnswered}
+use Rattle.vm_rest_guest.specs.Orderly.{out_on}
+use Rattle.vm_rest_guest.specs.Guest.{GuestState, no_process, process_in, process_at, with_process, lines_at, IsDriver, Posting, begins_asked, issued, Collected}
+use Rattle.vm_rest_guest.proofs.LinesLemmas.{asking_line}
+use Rattle.vm_rest_guest.proofs.OrderlyLemmas.{next_is, crossing_is, here_is, crossing_at_rest, asks_read, out_same}
+use Rattle.vm_rest_guest.proofs.GuestLemmas.{process_past, begun_as, begins_as}
 use Rattle.vm_world.specs.World.{WorldState, after_posting, after_finishing}
 use Rattle.vm_world.specs.Sound.{Seat, no_seat, seat_of, seat_at, IsAsking, IsTold, requests_of, replies_of, crossing_count, session_count, IsResting, IsSoundProcess, IsSoundOf}
 use Rattle.vm_world.proofs.ListLemmas.{own_first, other_first, own_pushed, other_pushed, each_process}

@@ -5,11 +5,11 @@ use Rattle.vm_link.specs.declared.chains.DoneChain.{DoneChain}
 use Rattle.vm_link.specs.declared.parcel.Parcel.{Parcel}
 use Rattle.vm_wire.specs.Wire.{command_bytes, IsCommand}
 use Rattle.vm_wire.specs.declared.command.Command.{Command}
-use Rattle.vm_host.specs.Part.{request_of}
-use Rattle.vm_host.specs.Sessions.{HostState}
+use Rattle.vm_rest_host.specs.Part.{request_of}
+use Rattle.vm_rest_host.specs.Sessions.{HostState}
 use Rattle.vm_script.specs.Script.{ScriptLines}
-use Rattle.vm_guest.specs.Chain.{reply_room, chain_table, IsChain, Carries, reply_of}
-use Rattle.vm_guest.specs.Guest.{GuestState}
+use Rattle.vm_rest_guest.specs.Chain.{reply_room, chain_table, IsChain, Carries, reply_of}
+use Rattle.vm_rest_guest.specs.Guest.{GuestState}
 use Rattle.vm_world.specs.World.{WorldState}
 
 -- how many descriptors the queues of commands and of events have at least

@@ -9,13 +9,13 @@ use Rattle.vm_wire.specs.Message.Ask.{Judged}
 use Rattle.vm_wire.specs.Wire.{response_bytes, Answers as MayReply}
 use Rattle.vm_wire.specs.declared.command.Command.{Command}
 use Rattle.vm_wire.specs.declared.response.Response.{Response}
-use Rattle.vm_session.specs.Session.{SessionQueue, opening_queue as opening_session_queue}
-use Rattle.vm_session.specs.declared.session.Session.{Session}
-use Rattle.vm_handle.specs.Handle.{HandleState, local_of, asks, IsAnswer, with_reply}
-use Rattle.vm_handle.specs.declared.sent.Sent.{Sent}
-use Rattle.vm_guest.specs.declared.asked.Asked.{Asked}
-use Rattle.vm_guest.specs.Process.{ProcessState, is_at_rest, crossing, handle_at}
-use Rattle.vm_guest.specs.Guest.{process_at, IsDriver}
+use Rattle.vm_rest_session.specs.Session.{SessionQueue, opening_queue as opening_session_queue}
+use Rattle.vm_rest_session.specs.declared.session.Session.{Session}
+use Rattle.vm_rest_handle.specs.Handle.{HandleState, local_of, asks, IsAnswer, with_reply}
+use Rattle.vm_rest_handle.specs.declared.sent.Sent.{Sent}
+use Rattle.vm_rest_guest.specs.declared.asked.Asked.{Asked}
+use Rattle.vm_rest_guest.specs.Process.{ProcessState, is_at_rest, crossing, handle_at}
+use Rattle.vm_rest_guest.specs.Guest.{process_at, IsDriver}
 use Rattle.vm_script.specs.Script.{ScriptLines}
 use Rattle.vm_world.specs.World.{WorldState}
 

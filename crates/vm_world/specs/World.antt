@@ -5,15 +5,15 @@ use Rattle.vm_wire.specs.Message.{Ask, Request, Reply}
 use Rattle.vm_wire.specs.Message.Ask.{Unusable, Judged}
 use Rattle.vm_wire.specs.declared.command.Command.{Command}
 use Rattle.vm_wire.specs.declared.command.Command.TheVariants.{Ioctl}
-use Rattle.vm_host.specs.Sessions.{HostState}
-use Rattle.vm_host.specs.Part.{Finishing, Executed}
+use Rattle.vm_rest_host.specs.Sessions.{HostState}
+use Rattle.vm_rest_host.specs.Part.{Finishing, Executed}
 use Rattle.vm_link.specs.declared.link.Turn.{Turn}
 use Rattle.vm_link.specs.declared.link.Turn.TheVariants.{Did, Idle}
-use Rattle.vm_host.specs.Host.{fresh_host}
+use Rattle.vm_rest_host.specs.Host.{fresh_host}
 use Rattle.vm_script.specs.Script.{ScriptLines}
 use Rattle.vm_local.specs.declared.entry.Entry.{Entry}
-use Rattle.vm_guest.specs.Process.{ProcessState, begun, can_issue, handle_at}
-use Rattle.vm_guest.specs.Guest.{GuestState, process_at, IsDone as IsGuestDone, IsFreshGuest, may_issue, Posting, issued, Collected}
+use Rattle.vm_rest_guest.specs.Process.{ProcessState, begun, can_issue, handle_at}
+use Rattle.vm_rest_guest.specs.Guest.{GuestState, process_at, IsDone as IsGuestDone, IsFreshGuest, may_issue, Posting, issued, Collected}
 use Rattle.vm_world.specs.declared.step.Step.{Step}
 use Rattle.vm_world.specs.declared.step.Step.TheVariants.{Issue, Execute, Collect}
 

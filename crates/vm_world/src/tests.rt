@@ -1,5 +1,5 @@
 ghost use Rattle.std.specs.Prelude.{◌<◌, ◌-◌, ◌^◌, IfOk, length};
-ghost use Rattle.vm_guest.specs.Guest.{IsReadScript};
+ghost use Rattle.vm_rest_guest.specs.Guest.{IsReadScript};
 
 use crate::{Step, World};
 use std::alloc::Global;

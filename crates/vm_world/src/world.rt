@@ -4,7 +4,7 @@ ghost use Rattle.std.specs.Prelude.{◌≡◌, ◌≤◌, ◌<◌, ◌^◌, ◌�
 ghost use Rattle.vm_link.specs.Queue.{queue_at};
 ghost use Rattle.vm_link.specs.declared.link.QueueId.TheVariants.{Command as Commands, Event as Events};
 ghost use Rattle.vm_link.specs.declared.link.Turn.TheVariants.{Did, Idle};
-ghost use Rattle.vm_guest.specs.Guest.{IsReadScript};
+ghost use Rattle.vm_rest_guest.specs.Guest.{IsReadScript};
 ghost use Rattle.vm_world.specs.World.{handle_count, IsOpening, IsDone, issues_from, listed, enabled, is_enabled, turn_of, Turns, left_of};
 ghost use Rattle.vm_world.specs.Sound.{IsSound};
 ghost use Rattle.vm_world.specs.Carried.{IsEmpty, command_room, event_room, world_of};
@@ -12,10 +12,10 @@ ghost use Rattle.vm_world.specs.Carried.{IsEmpty, command_room, event_room, worl
 use crate::step::Step;
 use std::alloc::Global;
 use std::marker::Model;
-use vm_guest::Guest;
-use vm_host::Host;
 use vm_link::{Link, QueueId, Turn};
 use vm_mem::Memory;
+use vm_rest_guest::Guest;
+use vm_rest_host::Host;
 use vm_script::Script;
 
 /// The driver of a script, the device, and the link between them.

@@ -14,10 +14,10 @@ use Rattle.vm_local.proofs.LogLemmas.{replay_from_push}
 use Rattle.vm_report.specs.Digest.{wire_of, wires_from, or_nothing, wires_of}
 use Rattle.vm_report.specs.Logs.{handle_logs, process_logs}
 use Rattle.vm_script.specs.Script.{ProcessLines}
-use Rattle.vm_handle.specs.Handle.{HandleState, local_after}
-use Rattle.vm_handle.specs.Range.{IsInRange}
-use Rattle.vm_handle.specs.Record.{RecordState, recorded}
-use Rattle.vm_handle.proofs.RangeLemmas.{local_in_range, local_model, reply_offered}
+use Rattle.vm_rest_handle.specs.Handle.{HandleState, local_after}
+use Rattle.vm_rest_handle.specs.Range.{IsInRange}
+use Rattle.vm_rest_handle.specs.Record.{RecordState, recorded}
+use Rattle.vm_rest_handle.proofs.RangeLemmas.{local_in_range, local_model, reply_offered}
 use Rattle.vmedia.specs.Printing.{TellsOffered, crossed, all_crossed}
 use Rattle.vmedia.proofs.FitLemmas.{Fits}
 

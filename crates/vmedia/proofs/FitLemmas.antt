@@ -5,10 +5,10 @@ use Rattle.std.specs.Option.{option_map}
 use Rattle.v4l_const.specs.declared.model.Model.{Model}
 use Rattle.vm_local.specs.declared.entry.Entry.{Entry}
 use Rattle.vm_local.specs.Log.{IsLegal}
-use Rattle.vm_handle.specs.Handle.{HandleState}
+use Rattle.vm_rest_handle.specs.Handle.{HandleState}
 use Rattle.vm_script.specs.Script.{ProcessLines, ScriptLines}
-use Rattle.vm_guest.specs.Guest.{GuestState, IsDriver, process_in, process_at, no_lines}
-use Rattle.vm_guest.specs.Process.{ProcessState, handle_in, no_handle}
+use Rattle.vm_rest_guest.specs.Guest.{GuestState, IsDriver, process_in, process_at, no_lines}
+use Rattle.vm_rest_guest.specs.Process.{ProcessState, handle_in, no_handle}
 use Rattle.vmedia.specs.Printing.{handles_of, AreLegal}
 
 -- as many processes, and of each as many handles as names

@@ -14,9 +14,9 @@ use Rattle.vm_script.specs.Grammar.{reads_as}
 use Rattle.vm_script.specs.Lines.{Numbered, call_on, is_on, numbered, lines_of, calls_of, echoes_of, echoes_from, echoes_by_handle}
 use Rattle.vm_script.specs.Reading.{IsReadLine, IsReadKind}
 use Rattle.vm_script.specs.Script.{ProcessLines}
-use Rattle.vm_handle.specs.Handle.{HandleState}
-use Rattle.vm_guest.specs.Guest.{process_in, no_lines}
-use Rattle.vm_guest.specs.Process.{ProcessState, handle_in}
+use Rattle.vm_rest_handle.specs.Handle.{HandleState}
+use Rattle.vm_rest_guest.specs.Guest.{process_in, no_lines}
+use Rattle.vm_rest_guest.specs.Process.{ProcessState, handle_in}
 use Rattle.vm_report.specs.Logs.{HandleLog, handle_logs, process_logs}
 use Rattle.vm_report.specs.Text.{is_kind_of, reads, all_read}
 use Rattle.vm_report.proofs.KindLemmas.{kind_where}

@@ -4,22 +4,22 @@ use Rattle.std.proofs.lemmas.List.{take_all, map-append, get_or_default, get_or-
 use Rattle.std.proofs.lemmas.List.Elements.{All-append}
 use Rattle.v4l_const.specs.declared.model.Model.{Model}
 use Rattle.vm_local.specs.Log.{IsLegal}
-use Rattle.vm_handle.specs.Handle.{HandleState, has_opened}
-use Rattle.vm_handle.specs.Ids.{AreNumbersBelow}
+use Rattle.vm_rest_handle.specs.Handle.{HandleState, has_opened}
+use Rattle.vm_rest_handle.specs.Ids.{AreNumbersBelow}
 use Rattle.vm_script.specs.Script.{ProcessLines, ScriptLines}
 use Rattle.vm_script.specs.Lines.{lines_of, calls_of}
 use Rattle.vm_script.specs.declared.line.Line.{Line}
-use Rattle.vm_guest.specs.declared.asked.Asked.{Asked}
-use Rattle.vm_guest.specs.declared.status.Status.{Status}
-use Rattle.vm_guest.specs.declared.status.Status.TheVariants.{AtRest, Crossing}
+use Rattle.vm_rest_guest.specs.declared.asked.Asked.{Asked}
+use Rattle.vm_rest_guest.specs.declared.status.Status.{Status}
+use Rattle.vm_rest_guest.specs.declared.status.Status.TheVariants.{AtRest, Crossing}
 use Rattle.vm_script.specs.Grammar.{script_of}
 use Rattle.vm_script.specs.Reading.{IsReadProcess}
 use Rattle.vm_script.proofs.ScriptLemmas.{read_process}
 use Rattle.v4l_const.specs.declared.model.Model.TheVariants.{Capture}
-use Rattle.vm_guest.specs.Guest.{GuestState, IsDriver, IsDone as IsGuestDone, IsReadScript, process_at, process_in, no_process, no_lines, lines_at}
-use Rattle.vm_guest.specs.Orderly.{IsOrderly, AnswersLines}
-use Rattle.vm_guest.specs.Process.{ProcessState, is_done, is_at_rest, crossing, handle_in, handle_at, no_handle}
-use Rattle.vm_guest.specs.Asking.{statements_of}
+use Rattle.vm_rest_guest.specs.Guest.{GuestState, IsDriver, IsDone as IsGuestDone, IsReadScript, process_at, process_in, no_process, no_lines, lines_at}
+use Rattle.vm_rest_guest.specs.Orderly.{IsOrderly, AnswersLines}
+use Rattle.vm_rest_guest.specs.Process.{ProcessState, is_done, is_at_rest, crossing, handle_in, handle_at, no_handle}
+use Rattle.vm_rest_guest.specs.Asking.{statements_of}
 use Rattle.vm_world.specs.World.{WorldState, IsDone, IsOpening}
 use Rattle.vm_world.specs.declared.step.Step.{Step}
 use Rattle.vm_world.specs.Sound.{Seat, IsSoundOf, IsSoundProcess, IsResting, no_seat, seat_at}

@@ -5,10 +5,10 @@ use Rattle.std.proofs.lemmas.Grind.{common_steps}
 use Rattle.std.proofs.lemmas.List.{append-nil, drop_more}
 use Rattle.std.specs.List.{range_with_len}
 use Rattle.hex.specs.Hex.{encode_lower}
-use Rattle.vm_handle.specs.Handle.{HandleState}
+use Rattle.vm_rest_handle.specs.Handle.{HandleState}
 use Rattle.vm_script.specs.Lines.{echoes_from, echoes_by_handle}
 use Rattle.vm_script.specs.Script.{ProcessLines, ScriptLines}
-use Rattle.vm_guest.specs.Guest.{GuestState, IsDriver, process_limit}
+use Rattle.vm_rest_guest.specs.Guest.{GuestState, IsDriver, process_limit}
 use Rattle.vm_report.specs.Digest.{digest_of}
 use Rattle.vm_report.specs.Logs.{HandleLog, handle_logs, process_logs}
 use Rattle.vm_report.specs.Text.{handle_text, handles_text, process_text, text_of}

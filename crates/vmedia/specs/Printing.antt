@@ -7,9 +7,9 @@ use Rattle.vm_local.specs.Log.{IsLegal}
 use Rattle.vm_local.specs.State.{opening}
 use Rattle.vm_script.specs.Lines.{echoes_by_handle}
 use Rattle.vm_script.specs.Script.{ProcessLines, ScriptLines}
-use Rattle.vm_handle.specs.Handle.{HandleState}
-use Rattle.vm_handle.specs.Range.{IsOffered}
-use Rattle.vm_guest.specs.Guest.{GuestState}
+use Rattle.vm_rest_handle.specs.Handle.{HandleState}
+use Rattle.vm_rest_handle.specs.Range.{IsOffered}
+use Rattle.vm_rest_guest.specs.Guest.{GuestState}
 use Rattle.vm_report.specs.Digest.{wires_from, logs_of}
 use Rattle.vm_report.specs.Logs.{HandleLog, Logs, handle_logs}
 use Rattle.vm_report.specs.Text.{Words, handle_text}

@@ -2,8 +2,8 @@
 use Rattle.std.specs.Prelude.{ℕ, ◌≡◌, ◌+◌, List, [], ◌∷◌, ◌++◌, map, is_some, All}
 use Rattle.v4l_const.specs.declared.model.Model.{Model}
 use Rattle.vm_local.specs.Log.{IsLegal}
-use Rattle.vm_handle.specs.Handle.{has_opened}
-use Rattle.vm_handle.specs.Ids.{AreNumbersBelow}
+use Rattle.vm_rest_handle.specs.Handle.{has_opened}
+use Rattle.vm_rest_handle.specs.Ids.{AreNumbersBelow}
 use Rattle.vm_script.specs.Script.{ProcessLines, ScriptLines}
 use Rattle.vm_script.specs.Lines.{Numbered, lines_of, calls_of}
 use Rattle.vm_script.specs.declared.line.Line.{Line}

@@ -7,15 +7,15 @@ ghost use Rattle.vm_local.specs.Log.{IsLegal};
 ghost use Rattle.vm_local.specs.State.{LocalState, opening};
 ghost use Rattle.vm_wire.specs.Wire.{command_bytes, response_bytes};
 ghost use Rattle.vm_report.specs.Digest.{wire_of, wires_from};
-ghost use Rattle.vm_handle.specs.Record.{recorded};
-ghost use Rattle.vm_guest.specs.Guest.{IsDriver};
+ghost use Rattle.vm_rest_handle.specs.Record.{recorded};
+ghost use Rattle.vm_rest_guest.specs.Guest.{IsDriver};
 ghost use Rattle.vmedia.specs.Printing.{AreLegal, TellsOffered, all_crossed, handles_of};
 
 use sha2::{Digest, Sha256};
 use v4l_const::Model;
-use vm_guest::Guest;
-use vm_handle::{Handle, Record, command_of, response_to};
 use vm_local::Entry;
+use vm_rest_guest::Guest;
+use vm_rest_handle::{Handle, Record, command_of, response_to};
 use vm_script::Script;
 use vm_wire::{Command, Response, WIRE_ROOM, encode_command, encode_response};
 

@@ -3,7 +3,7 @@
 ghost use Rattle.std.specs.Prelude.{◌≡◌, ◌++◌, OnOk, IfOk, codes, length, map};
 ghost use Rattle.std.specs.Fmt.{decimal};
 ghost use Rattle.hex.specs.Hex.{encode_lower};
-ghost use Rattle.vm_guest.specs.Guest.{IsDriver};
+ghost use Rattle.vm_rest_guest.specs.Guest.{IsDriver};
 ghost use Rattle.vm_report.specs.Logs.{handle_logs};
 ghost use Rattle.vm_report.specs.Text.{session_text, call_text, head_text, entries_text, handle_text, text_of};
 ghost use Rattle.vmedia.specs.Printing.{handles_of, logs_of_guest, words_of, handle_log, listed_text, own_text, own_texts};
@@ -13,10 +13,10 @@ use crate::echoes::{Echoes, group_echoes};
 use crate::reply_text::push_reply;
 use itoa::Buffer;
 use std::alloc::Global;
-use vm_guest::Guest;
-use vm_handle::Handle;
 use vm_local::{Entry, Name, Reply};
 use vm_mem::Memory;
+use vm_rest_guest::Guest;
+use vm_rest_handle::Handle;
 use vm_script::{Echo, Process, Script};
 
 /// How many hex digits a digest has.

@@ -1,5 +1,5 @@
 use Rattle.std.proofs.Common.{ap}
-use Rattle.vm_handle.specs.Exchange.{crossing as crossing_by}
+use Rattle.vm_rest_handle.specs.Exchange.{crossing as crossing_by}
 use Rattle.vm_world.proofs.SliceLemmas.{slices_sent, slices_answered}
 use Rattle.vm_world.proofs.laws.a_beginning_keeps_slices_sound.Goals as goal
 

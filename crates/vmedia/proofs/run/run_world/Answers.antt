@@ -1,7 +1,7 @@
 -- The schedule's run ends in a sound world, and what is printed is what its driver logged.
 use Rattle.std.proofs.Common.{◌≡◌, ℕ, List, subst, sym, ◌∙◌}
 use Rattle.vm_script.specs.Script.{ScriptLines}
-use Rattle.vm_guest.specs.Guest.{GuestState, IsDriver}
+use Rattle.vm_rest_guest.specs.Guest.{GuestState, IsDriver}
 use Rattle.vm_world.specs.Sound.{IsSoundOf}
 use Rattle.vm_report.specs.Text.{text_of}
 use Rattle.vmedia.specs.Printing.{logs_of_guest, words_of}

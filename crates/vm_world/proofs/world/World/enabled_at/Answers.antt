@@ -3,8 +3,8 @@ use Rattle.std.proofs.lemmas.List.{length-map}
 use Rattle.vm_link.specs.Queue.{queue_at}
 use Rattle.vm_link.specs.declared.link.QueueId.TheVariants.{Command as Commands}
 use Rattle.vm_link.specs.declared.chains.DoneChain.{DoneChain}
-use Rattle.vm_host.specs.Part.{request_of}
-use Rattle.vm_guest.specs.Chain.{reply_of}
+use Rattle.vm_rest_host.specs.Part.{request_of}
+use Rattle.vm_rest_guest.specs.Chain.{reply_of}
 use Rattle.vm_world.proofs.EnabledLemmas.{front_may, behind_step}
 use Rattle.vm_world.proofs.world.World.enabled_at.Goals as goal
 

@@ -1,5 +1,5 @@
 use Rattle.std.proofs.Common.{ap, ◌∙◌}
-use Rattle.vm_host.specs.Host.{fresh_host}
+use Rattle.vm_rest_host.specs.Host.{fresh_host}
 use Rattle.vm_script.specs.Script.{ScriptLines}
 use Rattle.vm_world.proofs.OpeningLemmas.{opening_carried}
 use Rattle.vm_world.proofs.world.World.new.Goals as goal
