@@ -1,1 +1,2 @@
+mod SizeLemmas
 mod UserLemmas

@@ -14,8 +14,8 @@ pub fn gather_into(user: &User, at: u32, out: &mut [u8])
     user.copy_out(at, out);
 }
 
-/// Sets the bytes from `at` on of those that the entries name to `bytes`, and no others, run by run.
-/// Entries and pages stay those that they were.
+/// Sets the bytes from `at` on of those that the entries name to `bytes`, and no others, run by
+/// run. Entries and pages stay those that they were.
 ///
 /// Source: own.
 pub fn scatter_from(user: &mut User, at: u32, bytes: &[u8])

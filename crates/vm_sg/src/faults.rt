@@ -39,8 +39,10 @@ pub fn check(entries: &[SgEntry], pages: &[Page]) -> Result<(), SgFault>
 
 /// Looks for what is wrong with an entry behind `earlier` ones.
 fn check_entry(entry: SgEntry, earlier: &[SgEntry], pages: &[Page]) -> Result<(), SgFault>
-    ensures ok { OnOk result (entry_fault (map (λ page. page.number) pages.now) earlier.now entry ≡ None) }
-    ensures err { IfErr result (λ fault. entry_fault (map (λ page. page.number) pages.now) earlier.now entry ≡ Some fault) }
+    ensures ok { OnOk result (entry_fault (map (λ page. page.number) pages.now) earlier.now entry ≡
+        None) }
+    ensures err { IfErr result (λ fault. entry_fault
+        (map (λ page. page.number) pages.now) earlier.now entry ≡ Some fault) }
 {
     if entry.len == 0 {
         return Err(SgFault::ZeroLen);
@@ -56,7 +58,8 @@ fn check_entry(entry: SgEntry, earlier: &[SgEntry], pages: &[Page]) -> Result<()
 
 /// Whether an entry's bytes lie in one of these pages.
 fn lies_in_one(entry: SgEntry, pages: &[Page]) -> bool
-    ensures { result ≡ list_any (lies_in_page entry.start entry.len) (map (λ page. page.number) pages.now) }
+    ensures { result ≡ list_any (lies_in_page entry.start entry.len)
+        (map (λ page. page.number) pages.now) }
 {
     for page in pages {
         if lies_in_page(entry.start, entry.len, page.number) {

@@ -1,5 +1,5 @@
-//! Scatter lists: the memory of a user as it is made, the entries as the wire brings them, and copies
-//! to and from the bytes that they name.
+//! Scatter lists: the memory of a user as it is made, the entries as the wire brings them, and
+//! copies to and from the bytes that they name.
 #![tactic(auto)]
 
 mod copies;
@@ -11,7 +11,7 @@ pub use copies::{gather_into, scatter_from};
 pub use faults::{check, total};
 pub use user_memory::of_user;
 pub use vm_frame::SgFault;
-pub use wire::load;
+pub use wire::{load, total_in};
 
 #[cfg(test)]
 mod tests;

@@ -46,8 +46,10 @@ fn a_users_memory_is_made_and_loaded(rt: HostRuntime) -> Result<(), Fail> {
         1, 0xf0, 0x46, 0, 1, 0, 0, 0, 2, 0, 0, 0, 0, 0, 0, 0, //
         1, 0xf0, 0x46, 0, 1, 0, 0, 0, 2, 0, 0, 0, 0, 0, 0, 0,
     ];
+    assert_eq!(rt; total_in(&twice), 4);
     assert_eq!(rt; load(&mut user, &twice), Err(SgFault::Twice));
     assert_eq!(rt; user.size(), 256);
+    assert_eq!(rt; total_in(&wire), 2);
     assert_eq!(rt; load(&mut user, &wire), Ok(()));
     assert_eq!(rt; user.size(), 2);
     let mut read = [1; 2];

@@ -16,9 +16,9 @@ const FIRST_PAGE: u64 = 0x10_0000;
 /// Source: own.
 const PAGES_OF_A_LINE: u64 = 227;
 
-/// The user memory of `len` bytes that the line numbered `line` makes, of zeros, with its first byte
-/// at `off` in a page. Its pages are the line's own and run backwards, and each of them has one
-/// entry, in the memory's order.
+/// The user memory of `len` bytes that the line numbered `line` makes, of zeros, with its first
+/// byte at `off` in a page. Its pages are the line's own and run backwards, and each of them has
+/// one entry, in the memory's order.
 ///
 /// # Errors
 /// `Memory` where there is no memory for it.

@@ -1,5 +1,6 @@
-ghost use Rattle.std.specs.Prelude.{◌≡◌, ◌+◌, ◌*◌, ◌/◌, ◌%◌, ◌≤◌, Some, None, length, take, vec_capacity, OnOk, OnErr, IfErr};
+ghost use Rattle.std.specs.Prelude.{◌≡◌, ◌+◌, ◌*◌, ◌/◌, ◌%◌, ◌^◌, ◌<◌, ◌≤◌, Some, None, length, take, sum_by, vec_capacity, OnOk, OnErr, IfErr};
 ghost use Rattle.vm_frame.specs.Scatter.{scatter_fault};
+ghost use Rattle.vm_sg.specs.Copies.{named_bytes};
 ghost use Rattle.vm_sg.specs.Wire.{entry_at, entries_in};
 
 use crate::check;
@@ -14,7 +15,24 @@ const ENTRY_SIZE: usize = 16;
 /// An entry that stands where none was read.
 const NO_ENTRY: SgEntry = SgEntry { start: 0, len: 0 };
 
-/// Replaces the entries of a user's memory by those that the wire brings. Takes no memory.
+/// How many bytes the entries that the wire brings name, each counted as often as it is named.
+/// Takes no memory, so that it can be judged before any entry is taken over. Bytes behind the last
+/// whole entry count for nothing.
+///
+/// Source: own.
+pub fn total_in(wire: &[u8]) -> u64
+    requires { length wire.now < 16 * 2 ^ 32 }
+    ensures { result ≡ sum_by (λ e. e.len) (entries_in wire.now) }
+{
+    let mut bytes = 0;
+    for i in 0..wire.len() / ENTRY_SIZE {
+        bytes += u64::from(entry_at(wire, i).len);
+    }
+    bytes
+}
+
+/// Replaces the entries of a user's memory by those that the wire brings, which name as many bytes
+/// as `total_in` tells. Takes no memory.
 ///
 /// # Errors
 /// What `check` answers for the entries on the user's pages. The user's memory is then as it was.
@@ -25,7 +43,10 @@ pub fn load(user: &mut User, wire: &[u8]) -> Result<(), SgFault>
     requires few { length wire.now ≤ 16 * 249 }
     ensures ok { OnOk result (scatter_fault (entries_in wire.now) user.old.pages ≡ None) }
     ensures entries { OnOk result (user.new ≡ record user.old { entries = entries_in wire.now }) }
-    ensures err { IfErr result (λ fault. scatter_fault (entries_in wire.now) user.old.pages ≡ Some fault) }
+    ensures size { OnOk result (length (named_bytes user.new) ≡
+        sum_by (λ e. e.len) (entries_in wire.now)) }
+    ensures err { IfErr result (λ fault. scatter_fault (entries_in wire.now) user.old.pages ≡
+        Some fault) }
     ensures kept { OnErr result (user.new ≡ user.old) }
 {
     let mut room = [NO_ENTRY; MAX_ENTRIES];
