@@ -1,0 +1,11 @@
+pub mod WayLemmas
+pub mod EntryLemmas
+pub mod ReadLemmas
+pub mod RangeLemmas
+pub mod OutcomeLemmas
+pub mod OfferLemmas
+pub mod AnswerLemmas
+pub mod RecordLemmas
+pub mod FitLemmas
+pub mod ReplyLemmas
+pub mod AgainLemmas

@@ -1,0 +1,4 @@
+pub mod Entries
+pub mod Exchange
+pub mod Range
+pub mod Laws
