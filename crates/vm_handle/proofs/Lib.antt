@@ -1,0 +1,11 @@
+pub mod LogLemmas
+pub mod StageLemmas
+pub mod HereLemmas
+pub mod UserLemmas
+pub mod AnswerLemmas
+pub mod MessageLemmas
+pub mod DeliverLemmas
+pub mod StartLemmas
+pub mod ReplyLemmas
+pub mod BegunLemmas
+pub mod OpenLemmas

@@ -1,0 +1,4 @@
+pub mod Messages
+pub mod Handle
+pub mod Answers
+pub mod Laws
