@@ -1,0 +1,4 @@
+use Rattle.vm_host.proofs.chains.+follow.Given as goal
+
+abbrev pub decreases-follow : goal.decreases-follow
+decreases-follow l = l.most

@@ -1,0 +1,6 @@
+pub mod Waiting
+pub mod Host
+pub mod Chains
+pub mod Steps
+pub mod Keeps
+pub mod Part

@@ -1,0 +1,18 @@
+//! The device at its end of the link: it takes the chains that the driver posts, does what they
+//! ask, and finishes them; calls that stop a busy session wait. What is done with commands, jobs
+//! and events is `vm_device`'s.
+#![tactic(auto)]
+
+mod chains;
+mod host;
+mod laws;
+mod waiting;
+
+pub use host::Host;
+pub use laws::{
+    announcing_is_the_part, closing_leaves_the_journal, resuming_is_the_part, serving_is_the_part,
+};
+pub use waiting::Waiting;
+
+#[cfg(test)]
+mod tests;
