@@ -1,1 +1,12 @@
+pub mod BodyLemmas
+pub mod CodeLemmas
+pub mod CompleteLemmas
 pub mod KindLemmas
+pub mod LineLemmas
+pub mod PartLemmas
+pub mod PieceLemmas
+pub mod ReadbackLemmas
+pub mod ReplyLemmas
+pub mod SayLemmas
+pub mod SoundLemmas
+pub mod WordLemmas

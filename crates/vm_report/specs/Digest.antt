@@ -43,8 +43,8 @@ wires_of model h = wires_from (unwrap_or h.session 0) (opening model) h.entries
 abbrev pub digest_of : Model → List HandleLog → List ℕ
 digest_of model handles = sha256 (flat_map (wires_of model) handles)
 
--- The logs of a script's handles, process by process, with the digest of what crossed for them. No raw line is built,
--- and nothing that maps.
+-- The logs of a script's handles, process by process, with the digest of what crossed for them. No
+-- raw line is built, and nothing that maps.
 abbrev pub logs_of : ScriptLines → List (List HandleState) → Logs
 logs_of script handles = record {
   handles = process_logs 0 script.processes handles;

@@ -1,4 +1,5 @@
--- What a run leaves: each handle's log, each raw line's, the region's journal, and the digest of what crossed.
+-- What a run leaves: each handle's log, each raw line's, the region's journal, and the digest of
+-- what crossed.
 use Rattle.std.specs.Prelude.{ℕ, ◌+◌, List, [], ◌∷◌, ◌++◌, Option, map}
 use Rattle.v4l_const.specs.declared.errno.Errno.{Errno}
 use Rattle.vm_local.specs.declared.entry.Entry.{Entry}
@@ -14,7 +15,8 @@ pub record HandleLog : Type 0 where
   pub session : Option ℕ
   pub entries : List Entry
 
--- One raw line: its process, its number, the chain that it posts, and the errno with which it is refused.
+-- One raw line: its process, its number, the chain that it posts, and the errno with which it is
+-- refused.
 pub record RawLog : Type 0 where
   pub process : ℕ
   pub line : ℕ

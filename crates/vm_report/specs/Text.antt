@@ -138,8 +138,8 @@ text_of logs words =
 
 -- ---- words that read as the calls
 
--- a reply of the kind that a call has: a refusal, or what the call tells where it isn't refused; a name is that of an
--- input that there is
+-- a reply of the kind that a call has: a refusal, or what the call tells where it isn't refused; a
+-- name is that of an input that there is
 abbrev pub is_kind_of : Call → Reply → Bool
 is_kind_of call (Refused errno) = true
 is_kind_of (OpenHandle nonblock) Done = true
@@ -186,7 +186,8 @@ all_read [] (echoes ∷ words) = false
 all_read (h ∷ hs) [] = false
 all_read (h ∷ hs) (echoes ∷ words) = reads h.name h.entries echoes && all_read hs words
 
--- These words read as the calls of these logs, each raw line has words, and the text is that of the logs with them.
+-- These words read as the calls of these logs, each raw line has words, and the text is that of the
+-- logs with them.
 abbrev pub PrintsWith : Words → List ℕ → Logs → Type 0
 PrintsWith words text logs =
     IsTrue (all_read logs.handles words.calls) × (length words.raws ≡ length logs.raws) × (text ≡ text_of logs words)

@@ -19,6 +19,7 @@ mod values;
 mod verb;
 mod words;
 
+pub use built::is_built_line;
 pub use echo::Echo;
 pub use fault::{ScriptError, ScriptFault, ScriptKind};
 pub use laws::{scripts_are_of_one_process, texts_read_as_one_call};
@@ -26,6 +27,8 @@ pub use line::{Line, LineKind, RawChain};
 pub use number::number_of;
 pub use reader::read_script;
 pub use script::{Process, STATEMENT_LIMIT, Script};
+pub use statement::{Statement, statement_of};
+pub use values::{between_of, bytes_of, code_of, name_of};
 
 #[cfg(test)]
 mod grammar_tests;
