@@ -36,7 +36,9 @@ errno_name Emsgsize = codes "EMSGSIZE"
 errno_name Eopnotsupp = codes "EOPNOTSUPP"
 
 abbrev pub errnos : List Errno
-errnos = Enoent ∷ Eio ∷ Ebadf ∷ Eagain ∷ Enomem ∷ Eacces ∷ Efault ∷ Ebusy ∷ Einval ∷ Enotty ∷ Edeadlk ∷ Emsgsize ∷ Eopnotsupp ∷ []
+errnos =
+    Enoent ∷ Eio ∷ Ebadf ∷ Eagain ∷ Enomem ∷ Eacces ∷ Efault ∷ Ebusy ∷ Einval ∷ Enotty ∷ Edeadlk ∷
+    Emsgsize ∷ Eopnotsupp ∷ []
 
 -- the error that has a number
 abbrev pub errno_of : ℕ → Option Errno

@@ -41,7 +41,9 @@ payload_size SubscribeEvent = 32
 payload_size UnsubscribeEvent = 32
 
 abbrev pub ioctls : List IoctlCode
-ioctls = QueryCap ∷ EnumFmt ∷ GFmt ∷ SFmt ∷ ReqBufs ∷ QueryBuf ∷ QBuf ∷ StreamOn ∷ StreamOff ∷ EnumInput ∷ GInput ∷ SInput ∷ TryFmt ∷ SubscribeEvent ∷ UnsubscribeEvent ∷ []
+ioctls =
+    QueryCap ∷ EnumFmt ∷ GFmt ∷ SFmt ∷ ReqBufs ∷ QueryBuf ∷ QBuf ∷ StreamOn ∷ StreamOff ∷
+    EnumInput ∷ GInput ∷ SInput ∷ TryFmt ∷ SubscribeEvent ∷ UnsubscribeEvent ∷ []
 
 -- the call that has a number
 abbrev pub ioctl_of : ℕ → Option IoctlCode

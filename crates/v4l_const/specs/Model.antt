@@ -6,7 +6,8 @@ use Rattle.v4l_const.specs.declared.numbers.TheConstants.{BUF_TYPE_CAPTURE, BUF_
 use Rattle.v4l_const.specs.BufFlags.{monotonic_flag, copy_flag}
 use Rattle.v4l_const.specs.Caps.{video_capture_cap, video_m2m_cap, streaming_cap, device_caps_cap}
 
--- the buffer types of its queues, in the order in which the buffers of one frame are given back (own)
+-- the buffer types of its queues, in the order in which the buffers of one frame are given back
+-- (own)
 abbrev pub queues : Model → List ℕ
 queues Capture = BUF_TYPE_CAPTURE ∷ []
 queues Convert = BUF_TYPE_OUTPUT ∷ BUF_TYPE_CAPTURE ∷ []

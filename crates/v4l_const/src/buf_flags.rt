@@ -31,7 +31,9 @@ impl Flags for BufFlags {
 
     ghost exact = { ⊤ };
 
-    ghost table = { (codes "MAPPED", mapped_flag) ∷ (codes "QUEUED", queued_flag) ∷ (codes "DONE", done_flag) ∷ (codes "ERROR", error_flag) ∷ (codes "TIMESTAMP_MONOTONIC", monotonic_flag) ∷ (codes "TIMESTAMP_COPY", copy_flag) ∷ [] };
+    ghost table = { (codes "MAPPED", mapped_flag) ∷ (codes "QUEUED", queued_flag) ∷
+        (codes "DONE", done_flag) ∷ (codes "ERROR", error_flag) ∷
+        (codes "TIMESTAMP_MONOTONIC", monotonic_flag) ∷ (codes "TIMESTAMP_COPY", copy_flag) ∷ [] };
 
     ghost set_of = { λ flags. flags.0 };
 

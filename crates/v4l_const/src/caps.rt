@@ -31,7 +31,10 @@ impl Flags for Caps {
 
     ghost exact = { ⊤ };
 
-    ghost table = { (codes "VIDEO_CAPTURE", video_capture_cap) ∷ (codes "VIDEO_CAPTURE_MPLANE", video_capture_mplane_cap) ∷ (codes "VIDEO_M2M_MPLANE", video_m2m_mplane_cap) ∷ (codes "VIDEO_M2M", video_m2m_cap) ∷ (codes "STREAMING", streaming_cap) ∷ (codes "DEVICE_CAPS", device_caps_cap) ∷ [] };
+    ghost table = { (codes "VIDEO_CAPTURE", video_capture_cap) ∷
+        (codes "VIDEO_CAPTURE_MPLANE", video_capture_mplane_cap) ∷
+        (codes "VIDEO_M2M_MPLANE", video_m2m_mplane_cap) ∷ (codes "VIDEO_M2M", video_m2m_cap) ∷
+        (codes "STREAMING", streaming_cap) ∷ (codes "DEVICE_CAPS", device_caps_cap) ∷ [] };
 
     ghost set_of = { λ caps. caps.0 };
 

@@ -2,7 +2,8 @@ ghost use Rattle.std.specs.Prelude.{◌≡◌, ◌≢◌, IfSome, IsNone};
 ghost use Rattle.v4l_const.specs.IoctlCode.{ioctl_number, ioctl_of};
 ghost use Rattle.v4l_const.specs.declared.ioctl_code.IoctlCode.{IoctlCode};
 
-/// A call that the driver sends to the device. `DQBUF` and `DQEVENT` aren't sent: the driver answers them.
+/// A call that the driver sends to the device. `DQBUF` and `DQEVENT` aren't sent: the driver
+/// answers them.
 ///
 /// Source: Linux V4L2, `videodev2.h`.
 #[derive(Clone, Copy, Debug, PartialEq, Eq)]

@@ -21,7 +21,8 @@ pub enum Model {
 }
 
 impl Model {
-    /// The buffer types of its queues, in the order in which the buffers of one frame are given back.
+    /// The buffer types of its queues, in the order in which the buffers of one frame are given
+    /// back.
     ///
     /// Source: own.
     pub fn queues(self) -> &'static [u32]

@@ -1,5 +1,5 @@
--- A picture is made of planes, and a plane of lines. A line carries the pixels of one row, by pairs of
--- pixels side by side.
+-- A picture is made of planes, and a plane of lines. A line carries the pixels of one row, by pairs
+-- of pixels side by side.
 use Rattle.std.specs.Prelude.{ℕ, ◌+◌, ◌*◌, ◌/◌, Bool, true, false, List, [], ◌∷◌, slice_index, slice_index_or}
 use Rattle.std.specs.List.{flat_map, range_with_len}
 use Rattle.v4l_convert.specs.declared.line_kind.LineKind.{LineKind}
@@ -76,12 +76,14 @@ line_size kind w = pair_size kind * (w / 2)
 
 -- the pixel at (x, y) of a picture, turned into the colours of a line
 abbrev pub turned_pixel : SampleOrder → LineKind → ℕ → ℕ → List ℕ → ℕ → ℕ → Triple
-turned_pixel order kind w h bytes y x = turned (colours_of order) (colours_in kind) (pixel_in order w h bytes x y)
+turned_pixel order kind w h bytes y x =
+    turned (colours_of order) (colours_in kind) (pixel_in order w h bytes x y)
 
 -- what the k-th pair of row y has in a line
 abbrev pub converted_pair : SampleOrder → LineKind → ℕ → ℕ → List ℕ → ℕ → ℕ → List ℕ
 converted_pair order kind w h bytes y k =
-    pair_bytes kind (turned_pixel order kind w h bytes y (2 * k)) (turned_pixel order kind w h bytes y (2 * k + 1))
+    pair_bytes kind (turned_pixel order kind w h bytes y (2 * k))
+    (turned_pixel order kind w h bytes y (2 * k + 1))
 
 -- the Y of the pixel x of a row that stands in these bytes
 abbrev pub luma_in : SampleOrder → List ℕ → ℕ → ℕ
@@ -92,8 +94,8 @@ luma_in Nv12 bytes x = slice_index bytes x
 luma_in Yu12 bytes x = slice_index bytes x
 luma_in Rgb3 bytes x = slice_index bytes x
 
--- what stands at its place, in a row of w pixels: the Cb of two pixels at the left one's, the Cr at the
--- right one's
+-- what stands at its place, in a row of w pixels: the Cb of two pixels at the left one's, the Cr at
+-- the right one's
 abbrev pub chroma_in : SampleOrder → ℕ → List ℕ → ℕ → ℕ
 chroma_in Grey w bytes x = 128
 chroma_in Yuyv w bytes x = slice_index bytes (2 * x + 1)
@@ -133,7 +135,8 @@ pixel_bytes Primaries luma chroma = chroma ∷ luma ∷ []
 
 -- the line of a picture's row y
 unfoldable pub converted_line : SampleOrder → LineKind → ℕ → ℕ → List ℕ → ℕ → List ℕ
-converted_line order kind w h bytes y = flat_map (converted_pair order kind w h bytes y) (range_with_len 0 (w / 2))
+converted_line order kind w h bytes y =
+    flat_map (converted_pair order kind w h bytes y) (range_with_len 0 (w / 2))
 
 -- the first n lines of a plane
 unfoldable pub converted_lines : SampleOrder → LineKind → ℕ → ℕ → List ℕ → ℕ → List ℕ

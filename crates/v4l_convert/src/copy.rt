@@ -9,7 +9,8 @@ const PART: u32 = 4096;
 pub fn copy_front<S: Store, D: Store>(src: &S, dst: &mut D, count: u32)
     requires whole { count ≤ length (S.bytes_of src.now) }
     requires room { count ≤ length (D.bytes_of dst.old) }
-    ensures bytes { D.bytes_of dst.new ≡ take count (S.bytes_of src.now) ++ drop count (D.bytes_of dst.old) }
+    ensures bytes { D.bytes_of dst.new ≡ take count (S.bytes_of src.now) ++
+        drop count (D.bytes_of dst.old) }
     ensures size { length (D.bytes_of dst.new) ≡ length (D.bytes_of dst.old) }
     ensures rest { D.rest_of dst.new ≡ D.rest_of dst.old }
 {

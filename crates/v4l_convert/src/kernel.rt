@@ -28,7 +28,8 @@ pub fn kernel<const F: u32, const G: u32, S: Store, D: Store>(
     requires same_height { src_fmt.now.height ≡ dst_fmt.now.height }
     requires whole { picture_size src_fmt.now ≤ length (S.bytes_of src.now) }
     requires room { picture_size dst_fmt.now ≤ length (D.bytes_of dst.old) }
-    ensures bytes { D.bytes_of dst.new ≡ converted_picture src_fmt.now (S.bytes_of src.now) dst_fmt.now ++ drop (picture_size dst_fmt.now) (D.bytes_of dst.old) }
+    ensures bytes { D.bytes_of dst.new ≡ converted_picture src_fmt.now
+        (S.bytes_of src.now) dst_fmt.now ++ drop (picture_size dst_fmt.now) (D.bytes_of dst.old) }
     ensures size { length (D.bytes_of dst.new) ≡ length (D.bytes_of dst.old) }
     ensures rest { D.rest_of dst.new ≡ D.rest_of dst.old }
 {

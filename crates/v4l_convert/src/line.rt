@@ -22,7 +22,8 @@ pub fn make_line<const F: u32, const G: u32, const P: u32>(line: &Line, w: u32, 
     requires target { G < length single_planar }
     requires plane { P < length (planes_of (order_at G)) }
     requires width { IsFitting 640 w }
-    ensures { take (line_size (kind_at (order_at G) P) w) out.new ≡ converted_line (order_at F) (kind_at (order_at G) P) w 2 line.now 0 }
+    ensures { take (line_size (kind_at (order_at G) P) w) out.new ≡
+        converted_line (order_at F) (kind_at (order_at G) P) w 2 line.now 0 }
 {
     if goes_by_pixels(order_at(F), kind_at(order_at(G), P)) {
         make_by_pixels::<F, G, P>(line, w, out);
@@ -38,7 +39,8 @@ fn make_by_pixels<const F: u32, const G: u32, const P: u32>(line: &Line, w: u32,
     requires plane { P < length (planes_of (order_at G)) }
     requires width { IsFitting 640 w }
     requires by_pixels { goes_by_pixels (order_at F) (kind_at (order_at G) P) ≡ true }
-    ensures { take (line_size (kind_at (order_at G) P) w) out.new ≡ converted_line (order_at F) (kind_at (order_at G) P) w 2 line.now 0 }
+    ensures { take (line_size (kind_at (order_at G) P) w) out.new ≡
+        converted_line (order_at F) (kind_at (order_at G) P) w 2 line.now 0 }
 {
     let (order, kind) = (order_at(F), kind_at(order_at(G), P));
     let wide = w as usize;
@@ -55,7 +57,8 @@ fn make_by_pairs<const F: u32, const G: u32, const P: u32>(line: &Line, w: u32, 
     requires target { G < length single_planar }
     requires plane { P < length (planes_of (order_at G)) }
     requires width { IsFitting 640 w }
-    ensures { take (line_size (kind_at (order_at G) P) w) out.new ≡ converted_line (order_at F) (kind_at (order_at G) P) w 2 line.now 0 }
+    ensures { take (line_size (kind_at (order_at G) P) w) out.new ≡
+        converted_line (order_at F) (kind_at (order_at G) P) w 2 line.now 0 }
 {
     let (order, kind) = (order_at(F), kind_at(order_at(G), P));
     let (from, to) = (order.colours(), colours_in(kind));
@@ -75,7 +78,8 @@ pub fn read_line<S: Store>(order: SampleOrder, src: &S, w: u32, h: u32, y: u32, 
     requires height { IsFitting 480 h }
     requires down { y < h }
     requires whole { picture_bytes order w h ≤ length (S.bytes_of src.now) }
-    ensures { (x : ℕ) → x < w → pixel_in order w 2 line.new x 0 ≡ pixel_in order w h (S.bytes_of src.now) x y }
+    ensures { (x : ℕ) → x < w → pixel_in order w 2 line.new x 0 ≡
+        pixel_in order w h (S.bytes_of src.now) x y }
 {
     let pixels = w * h;
     let at = y * w;
@@ -108,7 +112,8 @@ pub fn read_line<S: Store>(order: SampleOrder, src: &S, w: u32, h: u32, y: u32, 
 fn read_part<S: Store>(src: &S, at: u32, line: &mut Line, to: usize, count: usize)
     requires place { to + count ≤ 1920 }
     requires whole { at + count ≤ length (S.bytes_of src.now) }
-    ensures read { (i : ℕ) → i < count → slice_index line.new (to + i) ≡ slice_index (S.bytes_of src.now) (at + i) }
+    ensures read { (i : ℕ) → i < count → slice_index line.new (to + i) ≡
+        slice_index (S.bytes_of src.now) (at + i) }
     ensures before { (i : ℕ) → i < to → slice_index line.new i ≡ slice_index line.old i }
 {
     src.copy_out(at, &mut line[to..to + count]);

@@ -54,7 +54,10 @@ pub fn pair_of(order: SampleOrder, line: &[u8], w: usize, k: usize) -> Pair
 
 /// Two pixels that share their colour differences.
 fn side_by_side(left: u8, right: u8, cb: u8, cr: u8) -> Pair
-    ensures { result ≡ record { left = record { 0 = left; 1 = cb; 2 = cr }; right = record { 0 = right; 1 = cb; 2 = cr } } }
+    ensures { result ≡ record {
+      left = record { 0 = left; 1 = cb; 2 = cr };
+      right = record { 0 = right; 1 = cb; 2 = cr };
+    } }
 {
     Pair {
         left: Triple(left, cb, cr),
@@ -65,7 +68,9 @@ fn side_by_side(left: u8, right: u8, cb: u8, cr: u8) -> Pair
 /// Sets what the `k`-th pair has in a line, and nothing else.
 pub fn put_pair(kind: LineKind, out: &mut [u8], k: usize, pair: Pair)
     requires place { pair_size kind * k + pair_size kind ≤ length out.old }
-    ensures { out.new ≡ take (pair_size kind * k) out.old ++ (pair_bytes kind pair.left pair.right ++ drop (pair_size kind * k + pair_size kind) out.old) }
+    ensures { out.new ≡ take (pair_size kind * k) out.old ++
+        (pair_bytes kind pair.left pair.right ++
+        drop (pair_size kind * k + pair_size kind) out.old) }
 {
     let Pair { left, right } = pair;
     match kind {

@@ -29,7 +29,8 @@ pub fn convert<S: Store, D: Store>(src_fmt: &Fmt, src: &S, dst_fmt: &Fmt, dst: &
     requires same_height { src_fmt.now.height ≡ dst_fmt.now.height }
     requires whole { picture_size src_fmt.now ≤ length (S.bytes_of src.now) }
     requires room { picture_size dst_fmt.now ≤ length (D.bytes_of dst.old) }
-    ensures bytes { D.bytes_of dst.new ≡ converted_picture src_fmt.now (S.bytes_of src.now) dst_fmt.now ++ drop (picture_size dst_fmt.now) (D.bytes_of dst.old) }
+    ensures bytes { D.bytes_of dst.new ≡ converted_picture src_fmt.now
+        (S.bytes_of src.now) dst_fmt.now ++ drop (picture_size dst_fmt.now) (D.bytes_of dst.old) }
     ensures size { length (D.bytes_of dst.new) ≡ length (D.bytes_of dst.old) }
     ensures rest { D.rest_of dst.new ≡ D.rest_of dst.old }
 {

@@ -52,7 +52,8 @@ pub fn chroma_of(order: SampleOrder, line: &[u8], w: usize, x: usize) -> u8
 /// Sets what the pixel `x` of a row of this order has in a line, and nothing else.
 pub fn put_pixel(order: SampleOrder, kind: LineKind, out: &mut [u8], x: usize, luma: u8, chroma: u8)
     requires place { 2 * x + 2 ≤ length out.old }
-    ensures { out.new ≡ take (2 * x) out.old ++ (pixel_bytes kind luma chroma ++ drop (2 * x + 2) out.old) }
+    ensures { out.new ≡ take (2 * x) out.old ++
+        (pixel_bytes kind luma chroma ++ drop (2 * x + 2) out.old) }
 {
     let (first, second) = match kind {
         LineKind::LumaFirst => (luma, chroma),

@@ -28,7 +28,9 @@ pub fn write_plane<const F: u32, const G: u32, const P: u32, S: Store, D: Store>
     requires whole { picture_bytes (order_at F) w h ≤ length (S.bytes_of src.now) }
     requires room { start + plane_size w h (kind_at (order_at G) P) ≤ length (D.bytes_of dst.old) }
     ensures end { result ≡ start + plane_size w h (kind_at (order_at G) P) }
-    ensures bytes { D.bytes_of dst.new ≡ take start (D.bytes_of dst.old) ++ (converted_plane (order_at F) w h (S.bytes_of src.now) (kind_at (order_at G) P) ++ drop (start + plane_size w h (kind_at (order_at G) P)) (D.bytes_of dst.old)) }
+    ensures bytes { D.bytes_of dst.new ≡ take start (D.bytes_of dst.old) ++
+        (converted_plane (order_at F) w h (S.bytes_of src.now) (kind_at (order_at G) P) ++
+        drop (start + plane_size w h (kind_at (order_at G) P)) (D.bytes_of dst.old)) }
     ensures size { length (D.bytes_of dst.new) ≡ length (D.bytes_of dst.old) }
     ensures rest { D.rest_of dst.new ≡ D.rest_of dst.old }
 {
@@ -63,7 +65,9 @@ pub fn write_first<const F: u32, const G: u32, S: Store, D: Store>(
     requires whole { picture_bytes (order_at F) w h ≤ length (S.bytes_of src.now) }
     requires room { 0 + plane_size w h (kind_at (order_at G) 0) ≤ length (D.bytes_of dst.old) }
     ensures end { result ≡ 0 + plane_size w h (kind_at (order_at G) 0) }
-    ensures bytes { D.bytes_of dst.new ≡ take 0 (D.bytes_of dst.old) ++ (converted_plane (order_at F) w h (S.bytes_of src.now) (kind_at (order_at G) 0) ++ drop (0 + plane_size w h (kind_at (order_at G) 0)) (D.bytes_of dst.old)) }
+    ensures bytes { D.bytes_of dst.new ≡ take 0 (D.bytes_of dst.old) ++
+        (converted_plane (order_at F) w h (S.bytes_of src.now) (kind_at (order_at G) 0) ++
+        drop (0 + plane_size w h (kind_at (order_at G) 0)) (D.bytes_of dst.old)) }
     ensures size { length (D.bytes_of dst.new) ≡ length (D.bytes_of dst.old) }
     ensures rest { D.rest_of dst.new ≡ D.rest_of dst.old }
 {

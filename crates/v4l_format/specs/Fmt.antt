@@ -11,11 +11,15 @@ use Rattle.v4l_format.specs.SampleOrder.{line_bytes, picture_bytes}
 abbrev pub adjusted_length : ℕ → ℕ → ℕ
 adjusted_length most n = max 16 (min most (n - n % 2))
 
--- what is asked for, turned into a format of the table: an unknown code into GREY, the width into an
--- even one from 16 to 640, the height into an even one from 16 to 480
+-- what is asked for, turned into a format of the table: an unknown code into GREY, the width into
+-- an even one from 16 to 640, the height into an even one from 16 to 480
 abbrev pub adjusted_in : List FormatRow → FourCc → ℕ → ℕ → Fmt
 adjusted_in rows code w h =
-    record { code = (row_in rows code).code; width = adjusted_length 640 w; height = adjusted_length 480 h }
+    record {
+      code = (row_in rows code).code;
+      width = adjusted_length 640 w;
+      height = adjusted_length 480 h;
+    }
 
 -- the same by the formats that lie in one plane
 unfoldable pub adjusted : FourCc → ℕ → ℕ → Fmt

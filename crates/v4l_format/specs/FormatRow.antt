@@ -8,8 +8,8 @@ use Rattle.v4l_format.specs.declared.format_row.FormatRow.{FormatRow}
 use Rattle.v4l_format.specs.declared.sample_order.SampleOrder.{SampleOrder}
 use Rattle.v4l_format.specs.declared.sample_order.SampleOrder.TheVariants.{Grey, Yuyv, Uyvy, Nv12, Yu12, Rgb3}
 
--- a row of the table: a code by its four letters, of which it is the little-endian number, and the order
--- of the samples
+-- a row of the table: a code by its four letters, of which it is the little-endian number, and the
+-- order of the samples
 abbrev pub row : List ℕ → SampleOrder → FormatRow
 row letters order = record { code = record { 0 = from_le_bytes w32 letters }; order = order }
 

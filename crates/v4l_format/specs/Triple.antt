@@ -35,7 +35,8 @@ red_of y cr = brought (pos 298 *ℤ (pos y -ℤ pos 16) +ℤ pos 409 *ℤ (pos c
 
 abbrev pub green_of : ℕ → ℕ → ℕ → ℕ
 green_of y cb cr =
-    brought (pos 298 *ℤ (pos y -ℤ pos 16) -ℤ pos 100 *ℤ (pos cb -ℤ pos 128) -ℤ pos 208 *ℤ (pos cr -ℤ pos 128) +ℤ pos 128)
+    brought (pos 298 *ℤ (pos y -ℤ pos 16) -ℤ pos 100 *ℤ (pos cb -ℤ pos 128) -ℤ pos 208 *ℤ
+    (pos cr -ℤ pos 128) +ℤ pos 128)
 
 abbrev pub blue_of : ℕ → ℕ → ℕ
 blue_of y cb = brought (pos 298 *ℤ (pos y -ℤ pos 16) +ℤ pos 516 *ℤ (pos cb -ℤ pos 128) +ℤ pos 128)

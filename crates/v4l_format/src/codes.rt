@@ -1,6 +1,7 @@
 //! The codes of the formats: four letters each, as a little-endian number.
 //!
-//! Source: Linux V4L2, `videodev2.h`, `V4L2_PIX_FMT_GREY`, `_YUYV`, `_UYVY`, `_NV12`, `_YUV420`, `_RGB24`.
+//! Source: Linux V4L2, `videodev2.h`, `V4L2_PIX_FMT_GREY`, `_YUYV`, `_UYVY`, `_NV12`, `_YUV420`,
+//! `_RGB24`.
 
 use v4l_const::FourCc;
 

@@ -12,5 +12,6 @@ pub fn adjusting_gives_adjusted_formats_back()
 
 /// Converting a picture to its own format copies it.
 pub fn converting_to_the_same_format_copies()
-    ensures { (f : Fmt) → (bytes : List ℕ) → IsAdjusted f → picture_size f ≤ length bytes → converted_picture f bytes f ≡ take (picture_size f) bytes }
+    ensures { (f : Fmt) → (bytes : List ℕ) → IsAdjusted f → picture_size f ≤ length bytes →
+        converted_picture f bytes f ≡ take (picture_size f) bytes }
 {}

@@ -13,8 +13,8 @@ const MOST_ACROSS: u32 = 640;
 /// The greatest height of a picture, in pixels.
 const MOST_DOWN: u32 = 480;
 
-/// The format that a device takes where it is asked for this one: GREY for an unknown code, and even
-/// sizes that it offers. Own.
+/// The format that a device takes where it is asked for this one: GREY for an unknown code, and
+/// even sizes that it offers. Own.
 #[tactic(auto, unfolding(crate::specs::Fmt::adjusted, crate::specs::FormatRow::row_of))]
 pub fn adjust(code: FourCc, width: u32, height: u32) -> Fmt
     ensures value { result ≡ adjusted code width height }

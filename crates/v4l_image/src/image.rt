@@ -48,7 +48,8 @@ impl<const F: u32> Image<F> {
         requires down { y < h }
         requires whole { picture_bytes (order_at F) w h ≤ length (D.bytes_of d.old) }
         ensures size { length (D.bytes_of d.new) ≡ length (D.bytes_of d.old) }
-        ensures bytes { (i : ℕ) → slice_index (D.bytes_of d.new) i ≡ byte_put (order_at F) w h (D.bytes_of d.old) x y t i }
+        ensures bytes { (i : ℕ) → slice_index (D.bytes_of d.new) i ≡
+            byte_put (order_at F) w h (D.bytes_of d.old) x y t i }
         ensures rest { D.rest_of d.new ≡ D.rest_of d.old }
     {
         let samples = samples_of(order_at(F), w, h, x, y);

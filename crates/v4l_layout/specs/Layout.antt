@@ -1,4 +1,5 @@
--- The bytes of a record, which is a list of fields, each with its offset, its width and what it holds.
+-- The bytes of a record, which is a list of fields, each with its offset, its width and what it
+-- holds.
 use Rattle.std.specs.Prelude.{◌≡◌, ◌≤◌, ◌<◌, ◌+◌, ◌-◌, ◌^◌, ℕ, List, [], ◌∷◌, ◌++◌, length, take, drop, replicate}
 use Rattle.std.specs.Int.{to_le_bytes, from_le_bytes, w32, w64}
 use Rattle.v4l_layout.specs.declared.field.Field.{Field}
@@ -26,7 +27,8 @@ bytes_of (Bytes64 bs) = bs
 -- a record's bytes from a place to its end: those of the fields, and zero elsewhere
 abbrev pub layout_from : ℕ → ℕ → List Field → List ℕ
 layout_from size at [] = replicate (size - at) 0
-layout_from size at (f ∷ fs) = replicate (f.at - at) 0 ++ (bytes_of f.value ++ layout_from size (f.at + width f.value) fs)
+layout_from size at (f ∷ fs) =
+    replicate (f.at - at) 0 ++ (bytes_of f.value ++ layout_from size (f.at + width f.value) fs)
 
 -- the bytes of a record of a size
 abbrev pub layout_bytes : ℕ → List Field → List ℕ
@@ -62,4 +64,5 @@ IsLaid size at (f ∷ fs) = (at ≤ f.at) × IsInType f.value × IsLaid size (f.
 
 -- bytes read as at most one record of a kind
 abbrev pub HasOneReading : {R : Type 0} → (R → List Field) → Type 0
-HasOneReading {R} fields = (bytes : List ℕ) (r s : R) → ReadsAs bytes (fields r) → ReadsAs bytes (fields s) → r ≡ s
+HasOneReading {R} fields =
+    (bytes : List ℕ) (r s : R) → ReadsAs bytes (fields r) → ReadsAs bytes (fields s) → r ≡ s

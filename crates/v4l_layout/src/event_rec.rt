@@ -48,7 +48,8 @@ impl EventRec {
     }
 }
 
-/// Writes the record to the front of `out`: its fields, and zero in all its other bytes. What follows stays.
+/// Writes the record to the front of `out`: its fields, and zero in all its other bytes. What
+/// follows stays.
 ///
 /// `Short` comes where `out` is shorter than the record, and nothing is changed then.
 pub fn write_event(r: &EventRec, out: &mut [u8]) -> Result<(), Short>

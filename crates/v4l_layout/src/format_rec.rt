@@ -47,7 +47,8 @@ impl FormatRec {
     }
 }
 
-/// Writes the record to the front of `out`: its fields, and zero in all its other bytes. What follows stays.
+/// Writes the record to the front of `out`: its fields, and zero in all its other bytes. What
+/// follows stays.
 ///
 /// `Short` comes where `out` is shorter than the record, and nothing is changed then.
 pub fn write_format(r: &FormatRec, out: &mut [u8]) -> Result<(), Short>

@@ -36,7 +36,8 @@ impl InputRec {
     }
 }
 
-/// Writes the record to the front of `out`: its fields, and zero in all its other bytes. What follows stays.
+/// Writes the record to the front of `out`: its fields, and zero in all its other bytes. What
+/// follows stays.
 ///
 /// `Short` comes where `out` is shorter than the record, and nothing is changed then.
 pub fn write_input(r: &InputRec, out: &mut [u8]) -> Result<(), Short>

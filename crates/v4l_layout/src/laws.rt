@@ -5,13 +5,17 @@ ghost use Rattle.v4l_layout.specs.Layout.{HasOneReading, IsLaid, ReadsAs, layout
 ghost use Rattle.v4l_layout.specs.Records.{capability_fields, fmtdesc_fields, format_fields, request_fields, buffer_fields, plane_fields, event_fields, subscription_fields, input_fields};
 ghost use Rattle.v4l_layout.specs.declared.field.Field.{Field};
 
-/// A law of every record whose fields are laid: its bytes are as many as its size says, and they read back.
+/// A law of every record whose fields are laid: its bytes are as many as its size says, and they
+/// read back.
 pub fn laid_out_reads_back()
-    ensures size { (size : ℕ) (fields : List Field) → IsLaid size 0 fields → length (layout_bytes size fields) ≡ size }
-    ensures reads { (size : ℕ) (fields : List Field) (behind : List ℕ) → IsLaid size 0 fields → ReadsAs (layout_bytes size fields ++ behind) fields }
+    ensures size { (size : ℕ) (fields : List Field) → IsLaid size 0 fields →
+        length (layout_bytes size fields) ≡ size }
+    ensures reads { (size : ℕ) (fields : List Field) (behind : List ℕ) → IsLaid size 0 fields →
+        ReadsAs (layout_bytes size fields ++ behind) fields }
 {}
 
-/// A law: bytes read as at most one record of each kind. So a reader gives back just what a writer wrote.
+/// A law: bytes read as at most one record of each kind. So a reader gives back just what a writer
+/// wrote.
 #[tactic(auto, unfolding(crate::specs::Records::capability_fields, crate::specs::Records::fmtdesc_fields, crate::specs::Records::format_fields, crate::specs::Records::request_fields, crate::specs::Records::buffer_fields, crate::specs::Records::plane_fields, crate::specs::Records::event_fields, crate::specs::Records::subscription_fields, crate::specs::Records::input_fields))]
 pub fn at_most_one_reading()
     ensures capability { HasOneReading capability_fields }

@@ -1,7 +1,8 @@
 //! The records of V4L2 as bytes, at their 64-bit layouts.
 //!
-//! A record is a list of fields, each with its offset, its width and what it holds. A writer sets these bytes, and
-//! zero in all the record's other bytes; a reader gives the fields, whatever the other bytes are.
+//! A record is a list of fields, each with its offset, its width and what it holds. A writer sets
+//! these bytes, and zero in all the record's other bytes; a reader gives the fields, whatever the
+//! other bytes are.
 #![tactic(auto)]
 
 mod buffer_rec;

@@ -35,12 +35,14 @@ impl Subscription {
     }
 }
 
-/// Writes the record to the front of `out`: its fields, and zero in all its other bytes. What follows stays.
+/// Writes the record to the front of `out`: its fields, and zero in all its other bytes. What
+/// follows stays.
 ///
 /// `Short` comes where `out` is shorter than the record, and nothing is changed then.
 pub fn write_subscription(r: &Subscription, out: &mut [u8]) -> Result<(), Short>
     ensures short { IsErr result ↔ (length out.old < subscription_size) }
-    ensures ok { OnOk result (out.new ≡ subscription_bytes r.now ++ drop subscription_size out.old) }
+    ensures ok { OnOk result (out.new ≡ subscription_bytes r.now ++
+        drop subscription_size out.old) }
     ensures reads_back { OnOk result (ReadsAs out.new (subscription_fields r.now)) }
     ensures err { OnErr result (out.new ≡ out.old) }
 {

@@ -1,4 +1,5 @@
-// Each record with other bytes in each of its fields, against its bytes worked by hand from its table of offsets.
+// Each record with other bytes in each of its fields, against its bytes worked by hand from its
+// table of offsets.
 
 use crate::*;
 use std::test::Fail;

@@ -10,7 +10,8 @@ impl Field {
     /// Sets the field's bytes, and no other.
     fn put(self, out: &mut [u8])
         requires { self.at + width self.value ≤ length out.old }
-        ensures { out.new ≡ take self.at out.old ++ (bytes_of self.value ++ drop (self.at + width self.value) out.old) }
+        ensures { out.new ≡ take self.at out.old ++
+            (bytes_of self.value ++ drop (self.at + width self.value) out.old) }
     {
         match self.value {
             Value::Byte(number) => put_bytes(out, self.at, &[number]),
@@ -31,8 +32,8 @@ fn put_bytes(out: &mut [u8], at: usize, bytes: &[u8])
     out[at..at + bytes.len()].copy_from_slice(bytes);
 }
 
-/// Writes a record of `size` bytes to the front of `out`: its fields, and zero in all its other bytes.
-/// What follows stays. `Short` comes where `out` is shorter, which then stays as it was.
+/// Writes a record of `size` bytes to the front of `out`: its fields, and zero in all its other
+/// bytes. What follows stays. `Short` comes where `out` is shorter, which then stays as it was.
 pub fn write_fields(size: usize, fields: &[Field], out: &mut [u8]) -> Result<(), Short>
     requires { IsLaid size 0 fields.now }
     ensures short { IsErr result ↔ (length out.old < size) }

@@ -86,7 +86,8 @@ pub record IsPlane (kind : LineKind) (pattern : Pattern)
     (seq w lines at : ℕ) (old new : List ℕ) : Type 0 where
   pub size : length new ≡ length old
   pub made :
-      (i : ℕ) → i < lines * line_size kind w → slice_index new (at + i) ≡ plane_byte kind pattern seq w i
+      (i : ℕ) → i < lines * line_size kind w →
+      slice_index new (at + i) ≡ plane_byte kind pattern seq w i
   pub below : (i : ℕ) → i < at → slice_index new i ≡ slice_index old i
   pub behind : (i : ℕ) → at + lines * line_size kind w ≤ i → slice_index new i ≡ slice_index old i
 
@@ -94,7 +95,8 @@ pub record IsPlane (kind : LineKind) (pattern : Pattern)
 pub record IsStrip (kind : LineKind) (pattern : Pattern) (seq w : ℕ) (strip : List ℕ) : Type 0 where
   pub room : line_size kind (w + most_ahead pattern) ≤ length strip
   pub made :
-      (k : ℕ) → k < line_size kind (w + most_ahead pattern) → slice_index strip k ≡ strip_byte kind pattern seq w k
+      (k : ℕ) → k < line_size kind (w + most_ahead pattern) →
+      slice_index strip k ≡ strip_byte kind pattern seq w k
 
 -- the same of what is shown
 abbrev pub strip_width : Shown → ℕ

@@ -17,7 +17,8 @@ pub fn fill_pattern<D: Store>(input: u32, seq: u32, f: &Fmt, dst: &mut D)
     requires adjusted { IsAdjusted f.now }
     requires input { input < length patterns }
     requires room { picture_size f.now ≤ length (D.bytes_of dst.old) }
-    ensures bytes { D.bytes_of dst.new ≡ pattern_picture input seq f.now ++ drop (picture_size f.now) (D.bytes_of dst.old) }
+    ensures bytes { D.bytes_of dst.new ≡ pattern_picture input seq f.now ++
+        drop (picture_size f.now) (D.bytes_of dst.old) }
     ensures rest { D.rest_of dst.new ≡ D.rest_of dst.old }
 {
     let shown = Shown {

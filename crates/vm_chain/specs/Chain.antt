@@ -7,8 +7,8 @@ pub record WalkedChain : Type 0 where
   pub limit : ℕ
   pub descs : List Desc
 
--- a chain has room for as many descriptors as it may have, and each of them lies in one page, so that the sums of their
--- lengths fit
+-- a chain has room for as many descriptors as it may have, and each of them lies in one page, so
+-- that the sums of their lengths fit
 pub record IsRoomy (limit capacity : ℕ) (descs : List Desc) : Type 0 where
   pub few : limit < 2 ^ 16
   pub within : length descs ≤ limit

@@ -1,7 +1,7 @@
 /// What is wrong with a descriptor on a walk. The faults are tried in this order.
 ///
-/// Source: VIRTIO 1.3, 2.7.5 "The Virtqueue Descriptor Table"; own are the limit, the refusal of a descriptor without
-/// bytes, the pages and the order.
+/// Source: VIRTIO 1.3, 2.7.5 "The Virtqueue Descriptor Table"; own are the limit, the refusal of a
+/// descriptor without bytes, the pages and the order.
 #[derive(Clone, Copy, Debug, PartialEq, Eq)]
 pub enum ChainKind {
     /// Its index isn't below the table's length.

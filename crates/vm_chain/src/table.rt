@@ -7,11 +7,12 @@ ghost use Rattle.vm_chain.specs.Walk.{walk_of, fault_of};
 use crate::{Chain, ChainFault, ChainKind, Desc};
 use vm_mem::lies_in_page;
 
-/// Walks the table from the descriptor `head` on, and leaves the descriptors of the walk in `out`. At most `limit` of them
-/// are allowed, and the bytes of each have to lie in one of the pages whose numbers are `homes`. After a fault `out` is empty.
+/// Walks the table from the descriptor `head` on, and leaves the descriptors of the walk in `out`.
+/// At most `limit` of them are allowed, and the bytes of each have to lie in one of the pages whose
+/// numbers are `homes`. After a fault `out` is empty.
 ///
-/// Source: VIRTIO 1.3, 2.7.5 "The Virtqueue Descriptor Table"; own are the limit, the refusal of a descriptor without
-/// bytes, the pages and the order of the faults.
+/// Source: VIRTIO 1.3, 2.7.5 "The Virtqueue Descriptor Table"; own are the limit, the refusal of a
+/// descriptor without bytes, the pages and the order of the faults.
 #[tactic(auto, unfolding(crate::specs::Walk::walk_of))]
 pub fn walk(
     table: &[Desc],
@@ -22,7 +23,10 @@ pub fn walk(
 ) -> Result<(), ChainFault>
     requires { limit ≤ out.old.limit }
     ensures fault { result_err result ≡ result_err (walk_of table.now head limit homes.now) }
-    ensures chain { out.new ≡ record out.old { descs = result_unwrap_or (walk_of table.now head limit homes.now) [] } }
+    ensures chain { out.new ≡ record out.old {
+      descs = result_unwrap_or
+          (walk_of table.now head limit homes.now) [];
+    } }
 {
     out.clear();
     let mut writable_before = false;
@@ -53,7 +57,8 @@ fn visit(
     writable_before: bool,
     homes: &[u64],
 ) -> Result<Desc, ChainKind>
-    ensures fault { result_err result ≡ fault_of limit visited writable_before homes.now (slice_get table.now at) }
+    ensures fault { result_err result ≡ fault_of limit visited writable_before homes.now
+        (slice_get table.now at) }
     ensures ok { IfOk result (λ desc. slice_get table.now at ≡ Some desc) }
     ensures room { OnOk result (visited < limit) }
     ensures in_one_page { IfOk result (λ desc. desc.len ≤ 4096) }

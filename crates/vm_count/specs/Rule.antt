@@ -76,7 +76,8 @@ module _ {S E : Type 0} where
 
   -- The word found is at least what the seat has seen, and just that of the holder. The list that
   -- was met last and the seat's own are one list's beginnings, and the fixed values are one.
-  pub record Looks (s : Step E) (before : Me E (View S E)) (found : ℕ) (after : Me E (View S E)) : Type 0 where
+  pub record Looks (s : Step E) (before : Me E (View S E)) (found : ℕ)
+      (after : Me E (View S E)) : Type 0 where
     pub same : after ≡ (settled before.0, before.1)
     pub seen : length before.0.entries ≤ found
     pub whole : before.0.holds ≡ true → found ≡ length before.0.entries
@@ -86,4 +87,5 @@ module _ {S E : Type 0} where
 
   -- the entry that is told stands at the end
   abbrev pub Appends : Step E → Me E (View S E) → ℕ → Me E (View S E) → Type 0
-  Appends s before found after = (e : E) → s.said ≡ some e → after ≡ (longer_by before.0 e, before.1)
+  Appends s before found after = (e : E) → s.said ≡ some e →
+      after ≡ (longer_by before.0 e, before.1)

@@ -2,8 +2,8 @@
 //! stands in proofs alone.
 //!
 //! What a thread knows of the list is in its pass. One pass is the holder's: it has the whole list,
-//! and it alone adds. Every other pass has a beginning of that list, so what it has seen stays true.
-//! A join shows it: whatever stands in a pass that is joined into the holder's stands in the
+//! and it alone adds. Every other pass has a beginning of that list, so what it has seen stays
+//! true. A join shows it: whatever stands in a pass that is joined into the holder's stands in the
 //! holder's list, at the same place.
 //!
 //! A pass shows to contracts as the record `Pass` of its table, its fixed value, its list, and

@@ -22,7 +22,10 @@ impl<S, E> Count<S, E> {
         requires count { holder.old.table ≡ self.now }
         requires holder { holder.old.holds ≡ true }
         requires room { length holder.old.entries < 2 ^ 64 - 1 }
-        ensures { holder.new ≡ record holder.old { entries = holder.old.entries ++ entry.now ∷ [] } }
+        ensures { holder.new ≡ record holder.old {
+          entries = holder.old.entries ++
+              entry.now ∷ [];
+        } }
     {
         let length = self.load(holder);
         self.table

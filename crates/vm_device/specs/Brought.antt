@@ -33,7 +33,8 @@ is_told b wire (OfUser user) =
 
 -- the buffer that the record names isn't a frame of another length
 abbrev pub keeps_length : SessionState → BufferRec → Bool
-keeps_length s b = option_map_or (λ n. n == b.length) (given_length (queue_of s b.kind) b.index) true
+keeps_length s b =
+    option_map_or (λ n. n == b.length) (given_length (queue_of s b.kind) b.index) true
 
 -- the memory with what came on the wire: a user's memory has the entries that stand there
 abbrev pub loaded : List ℕ → Mem → Mem
@@ -52,6 +53,7 @@ brought s b wire (h ∷ g ∷ hs) = Err Efault
 
 -- what a call of the session comes with: what is brought, and else the memories of its chain as
 -- they are
-abbrev pub comes_with : SessionState → IoctlCode → List ℕ → List ℕ → List Held → Result (List Held) Errno
+abbrev pub comes_with : SessionState → IoctlCode → List ℕ → List ℕ → List Held →
+    Result (List Held) Errno
 comes_with s QBuf payload wire held = brought s (buffer_in payload) wire held
 comes_with s code payload wire held = Ok held

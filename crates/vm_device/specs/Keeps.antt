@@ -22,7 +22,8 @@ specs_in (Some s) = option_to_list (option_map (λ r. r.spec) s.running)
 -- the numbers of jobs rise, and stay below a number
 abbrev pub RiseBelow : ℕ → List JobOut → Type 0
 RiseBelow n [] = ⊤
-RiseBelow n (e ∷ es) = (e.spec.number < n) × All (λ f. e.spec.number < f.spec.number) es × RiseBelow n es
+RiseBelow n (e ∷ es) =
+    (e.spec.number < n) × All (λ f. e.spec.number < f.spec.number) es × RiseBelow n es
 
 -- ---- events
 

@@ -7,5 +7,6 @@ use Rattle.vm_device.specs.contracts.sessions.Sessions.{the_row}
 
 -- once the borrow ends, the session is what was left there; where there is none, all stay as they
 -- are
-abbrev pub LendsSession : MutBor (List (Option SessionState)) → ℕ → Option (MutBor SessionState) → Fml
+abbrev pub LendsSession : MutBor (List (Option SessionState)) → ℕ → Option (MutBor SessionState) →
+    Fml
 LendsSession s id r = LendsIf the_row session_row s r (λ w. slice_set s.now id (Some w)) s.now

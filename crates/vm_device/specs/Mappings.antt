@@ -58,6 +58,9 @@ pub record FitsSession (id : ℕ) (s : SessionState) (ranges : List LiveRange) :
 
 -- That holds of each live session, and no frame of a session to come has a range. So a frame is
 -- never given the range of another one, and one that is mapped again has the pages of its range.
-pub record FitsSessions (sessions : List (Option SessionState)) (ranges : List LiveRange) : Type 0 where
-  pub live : (id : ℕ) (s : SessionState) → slice_index_or sessions id None ≡ Some s → FitsSession id s ranges
-  pub unopened : (id k : ℕ) → length sessions ≤ id → k < 2 ^ 32 → range_of (frame_tag id k) ranges ≡ None
+pub record FitsSessions (sessions : List (Option SessionState))
+    (ranges : List LiveRange) : Type 0 where
+  pub live : (id : ℕ) (s : SessionState) → slice_index_or sessions id None ≡ Some s →
+      FitsSession id s ranges
+  pub unopened : (id k : ℕ) → length sessions ≤ id → k < 2 ^ 32 →
+      range_of (frame_tag id k) ranges ≡ None

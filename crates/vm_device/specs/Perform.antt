@@ -37,7 +37,10 @@ abbrev pub opened : Bool → List Held → DeviceState → Answer
 opened true held d = record {
   response = Opened (length d.sessions);
   held = held;
-  device = record d { sessions = d.sessions ++ Some (opening_session d.model (length d.sessions)) ∷ [] };
+  device = record d {
+    sessions = d.sessions ++ Some (opening_session d.model (length d.sessions)) ∷
+        [];
+  };
 }
 opened false held d = refused Enomem held d
 
@@ -65,12 +68,15 @@ called d id code held (Err errno) = refused errno held d
 -- The session does the call with what it comes with, if nothing is wrong with that. Where it
 -- refuses the call, what came goes back as it came on the wire. Whether memory came for its frames
 -- is free.
-abbrev pub called_with : Bool → DeviceState → ℕ → SessionState → IoctlCode → List ℕ → List Held → Result (List Held) Errno → Answer
-called_with memory d id s code payload held (Ok come) = called d id code come (ioctl_outcome memory s code payload come)
+abbrev pub called_with : Bool → DeviceState → ℕ → SessionState → IoctlCode → List ℕ → List Held →
+    Result (List Held) Errno → Answer
+called_with memory d id s code payload held (Ok come) =
+    called d id code come (ioctl_outcome memory s code payload come)
 called_with memory d id s code payload held (Err errno) = refused errno held d
 
 -- a call with these bytes behind its payload and these memories, in a session if it is live
-abbrev pub in_session : Bool → DeviceState → ℕ → Option SessionState → IoctlCode → List ℕ → List ℕ → List Held → Answer
+abbrev pub in_session : Bool → DeviceState → ℕ → Option SessionState → IoctlCode → List ℕ → List ℕ →
+    List Held → Answer
 in_session memory d id None code payload wire held = refused Ebadf held d
 in_session memory d id (Some s) code payload wire held =
     called_with memory d id s code payload held (comes_with s code payload wire held)
@@ -90,7 +96,8 @@ with_region d region = record d { region = region }
 abbrev pub MapsFrame : DeviceState → List Held → ℕ → ℕ → Answer → Type 0
 MapsFrame d held tag len a =
     (a ≡ refused Enomem held d)
-    ⊎ ((addr : ℕ) × (region : RegionState) × Maps (range_of tag d.region.ranges) d.region tag (pages_of len) addr region
+    ⊎ ((addr : ℕ) × (region : RegionState) ×
+    Maps (range_of tag d.region.ranges) d.region tag (pages_of len) addr region
     × (a ≡ record { response = Mapped addr len; held = held; device = with_region d region }))
 
 -- the same of a frame that is looked for
@@ -113,7 +120,8 @@ Performs d OpenSession wire held a = (memory : Bool) × (a ≡ opened memory hel
 Performs d (CloseSession id) wire held a = a ≡ closed d id held (session_of d id)
 Performs d (Ioctl id code payload) wire held a =
     (memory : Bool) × (a ≡ in_session memory d id (session_of d id) code payload wire held)
-Performs d (Map id writable offset) wire held a = MapsFound d held (frame_in (session_of d id) offset) a
+Performs d (Map id writable offset) wire held a =
+    MapsFound d held (frame_in (session_of d id) offset) a
 Performs d (Unmap addr) wire held a = UnmapsAt d held addr (range_at addr d.region.ranges) a
 
 -- ---- commands that wait
@@ -132,7 +140,8 @@ stops_in (Some s) code payload = stops s code payload
 abbrev pub must_wait : DeviceState → Command → Bool
 must_wait d OpenSession = false
 must_wait d (CloseSession id) = is_busy (session_of d id)
-must_wait d (Ioctl id code payload) = stops_in (session_of d id) code payload && is_busy (session_of d id)
+must_wait d (Ioctl id code payload) =
+    stops_in (session_of d id) code payload && is_busy (session_of d id)
 must_wait d (Map id writable offset) = false
 must_wait d (Unmap addr) = false
 

@@ -22,5 +22,6 @@ count_there xs = sum_by one_if_there xs
 -- Each key leads to a session, no two to the same one, and no other session is kept.
 pub record AreKept (slab : Slab SessionState) (keys : List (Option ℕ)) : Type 0 where
   pub leads : (id key : ℕ) → slice_index_or keys id None ≡ Some key → ContainsKey slab key
-  pub apart : (id other key : ℕ) → slice_index_or keys id None ≡ Some key → slice_index_or keys other None ≡ Some key → id ≡ other
+  pub apart : (id other key : ℕ) → slice_index_or keys id None ≡ Some key →
+      slice_index_or keys other None ≡ Some key → id ≡ other
   pub count : slab_len slab ≡ count_there keys

@@ -18,13 +18,17 @@ use Rattle.vm_device.specs.Device.{DeviceState, session_of, with_session, is_rea
 -- the session's next job is out, as this entry tells it
 abbrev pub with_job : DeviceState → ℕ → SessionState → JobOut → DeviceState
 with_job d id s entry =
-    record (with_session d id (begun s d.begun)) { jobs = d.jobs ++ entry ∷ []; begun = d.begun + 1 }
+    record (with_session d id (begun s d.begun)) {
+      jobs = d.jobs ++ entry ∷ [];
+      begun = d.begun + 1;
+    }
 
 -- The job is the session's next one, under the number of jobs that were begun before, and it is out
 -- from then on.
 abbrev pub BeginsJob : DeviceState → ℕ → JobParts → DeviceState → Type 0
 BeginsJob d id job d' =
-    (s : SessionState) × (entry : JobOut) × (session_of d id ≡ Some s) × (next_job s d.begun ≡ Some job)
+    (s : SessionState) × (entry : JobOut) × (session_of d id ≡ Some s) ×
+    (next_job s d.begun ≡ Some job)
     × IsOf entry job × (d' ≡ with_job d id s entry)
 
 -- None begins exactly where the session isn't live or has no frame to make.
@@ -60,7 +64,8 @@ with_done d id s done = record (with_session d id (finished s done)) {
 abbrev pub Finishes : DeviceState → DoneParts → DeviceState → Type 0
 Finishes d done d' =
     (s : SessionState) × (outstanding d done.job.spec.number ≡ Some done.job.spec)
-    × (session_of d done.job.spec.session ≡ Some s) × (d' ≡ with_done d done.job.spec.session s done)
+    × (session_of d done.job.spec.session ≡ Some s) ×
+    (d' ≡ with_done d done.job.spec.session s done)
 
 -- ---- an event is sent
 

@@ -125,7 +125,8 @@ pub(crate) fn come(
     ensures ok { OnOk result (comes_with session.now code payload.now behind.now held.old.items ≡
         Ok held.new.items) }
     ensures comes { OnOk result (Comes session.now code payload.now held.new.items) }
-    ensures err { IfErr result (λ e. comes_with session.now code payload.now behind.now held.old.items ≡ Err e) }
+    ensures err { IfErr result
+        (λ e. comes_with session.now code payload.now behind.now held.old.items ≡ Err e) }
     ensures kept { OnErr result (held.new.items ≡ held.old.items) }
     ensures count { vec_len held.new ≡ vec_len held.old }
     ensures capacity { vec_capacity held.new ≡ vec_capacity held.old }

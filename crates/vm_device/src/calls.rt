@@ -45,11 +45,17 @@ fn call(
     requires payload { HasItsLength code payload.old }
     requires entries { brings_entries code payload.old ≡ true → length behind.now % 16 ≡ 0 }
     requires frames { MadeFew (slice_index_or sessions.old session None) }
-    requires waits { (stops_in (slice_index_or sessions.old session None) code payload.old && is_busy (slice_index_or sessions.old session None)) ≡ false }
+    requires waits { (stops_in (slice_index_or sessions.old session None) code payload.old &&
+        is_busy (slice_index_or sessions.old session None)) ≡ false }
     requires room { puts_back code ≡ true → vec_len held.old + 64 ≤ vec_capacity held.old }
     ensures called { (d : DeviceState) → d.sessions ≡ sessions.old →
-        (memory : Bool) × (record { response = reply_to result payload.new; held = held.new.items; device = record d { sessions = sessions.new } }
-        ≡ in_session memory d session (session_of d session) code payload.old behind.now held.old.items) }
+        (memory : Bool) × (record {
+          response = reply_to result payload.new;
+          held = held.new.items;
+          device = record d { sessions = sessions.new };
+        }
+        ≡ in_session memory d session
+        (session_of d session) code payload.old behind.now held.old.items) }
     ensures one { OnOk result (IsSome (slice_index_or sessions.old session None) ×
         (sessions.new ≡ slice_set sessions.old session
         (slice_index_or sessions.new session None))) }
@@ -176,7 +182,10 @@ impl Device {
         requires waits { (stops_in (session_of self.old session) code payload && is_busy
             (session_of self.old session)) ≡ false }
         requires room { puts_back code ≡ true → vec_len held.old + 64 ≤ vec_capacity held.old }
-        ensures called { (memory : Bool) × (record { response = result; held = held.new.items; device = self.new } ≡ in_session memory self.old session (session_of self.old session) code payload behind.now held.old.items) }
+        ensures called { (memory : Bool) ×
+            (record { response = result; held = held.new.items; device = self.new } ≡
+            in_session memory self.old session
+            (session_of self.old session) code payload behind.now held.old.items) }
         ensures capacity { vec_capacity held.new ≡ vec_capacity held.old }
     {
         match call(

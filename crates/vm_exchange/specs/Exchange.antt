@@ -114,7 +114,8 @@ once_answered s call = if (row_of s 0 0 call).waits then Waits else AnsweredHere
 unfoldable pub qbuf_crossing : ℕ → LocalState → ℕ → ℕ → Option (List ℕ) → ℕ → ℕ → Crossing
 qbuf_crossing session s t i user used ts = record {
   command =
-      Ioctl session QBufCode (buffer_bytes (qbuf_request s.model (buffer_queued s t i user used ts)));
+      Ioctl session QBufCode
+      (buffer_bytes (qbuf_request s.model (buffer_queued s t i user used ts)));
   user = user_named s user;
 }
 

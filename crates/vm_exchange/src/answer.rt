@@ -105,7 +105,8 @@ fn count_in(bytes: &[u8]) -> Option<Reply>
 fn buffer_in(kept: &Record, t: u32, i: u32, bytes: &[u8]) -> Option<Reply>
     ensures { (model : Model) (memory len : ℕ) → t < 2 ^ 32 → i < 32 → memory < 2 ^ 32 →
         len < 2 ^ 32 → bytes.now ≡ buffer_bytes (querybuf_answer model t i memory len) →
-        result ≡ Some (Reply.Buf len (flags_of kept.now.local (buffer_of (queue_of kept.now.local t) i))) }
+        result ≡ Some (Reply.Buf len
+        (flags_of kept.now.local (buffer_of (queue_of kept.now.local t) i))) }
 {
     let record = read_buffer(bytes).ok()?;
     Some(Reply::Buf {

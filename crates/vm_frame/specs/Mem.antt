@@ -9,11 +9,13 @@ abbrev pub mem_bytes : Mem → List ℕ
 mem_bytes (OfFrame frame) = frame.bytes
 mem_bytes (OfUser user) = scatter_bytes user.entries user.pages
 
--- what a memory is besides its bytes: a frame with its tag, or a user's memory with the places of its bytes
+-- what a memory is besides its bytes: a frame with its tag, or a user's memory with the places of
+-- its bytes
 pub data MemRest : Type 0 where
   Tagged : ℕ → MemRest
   Scattered : Places → MemRest
 
 abbrev pub mem_rest : Mem → MemRest
 mem_rest (OfFrame frame) = Tagged frame.tag
-mem_rest (OfUser user) = Scattered (record { entries = user.entries; numbers = map (λ page. page.number) user.pages })
+mem_rest (OfUser user) =
+    Scattered (record { entries = user.entries; numbers = map (λ page. page.number) user.pages })

@@ -11,11 +11,13 @@ use Rattle.vm_frame.specs.declared.scatter.SgFault.TheVariants.{Outside, ZeroLen
 
 -- the bytes of the page with a number, of the first one where several have it
 abbrev pub page_bytes : List Page → ℕ → List ℕ
-page_bytes pages number = option_map_or (λ page. page.bytes) (find (λ page. page.number == number) pages) []
+page_bytes pages number =
+    option_map_or (λ page. page.bytes) (find (λ page. page.number == number) pages) []
 
 -- the bytes that an entry names
 abbrev pub entry_bytes : List Page → SgEntry → List ℕ
-entry_bytes pages e = take e.len (drop (place_in_page e.start) (page_bytes pages (page_number e.start)))
+entry_bytes pages e =
+    take e.len (drop (place_in_page e.start) (page_bytes pages (page_number e.start)))
 
 -- the bytes that entries name, joined
 abbrev pub scatter_bytes : List SgEntry → List Page → List ℕ
@@ -36,7 +38,8 @@ entry_fault numbers earlier e =
 -- the first entry's fault, behind `earlier` entries
 abbrev pub first_fault : List ℕ → List SgEntry → List SgEntry → Option SgFault
 first_fault numbers earlier [] = None
-first_fault numbers earlier (e ∷ es) = option_or (entry_fault numbers earlier e) (first_fault numbers (earlier ++ e ∷ []) es)
+first_fault numbers earlier (e ∷ es) =
+    option_or (entry_fault numbers earlier e) (first_fault numbers (earlier ++ e ∷ []) es)
 
 abbrev pub scatter_fault : List SgEntry → List Page → Option SgFault
 scatter_fault entries pages = first_fault (map (λ page. page.number) pages) [] entries

@@ -47,7 +47,8 @@ impl Frame {
         self.tag
     }
 
-    /// Fills `out` with the bytes from `at` on. `Range` is answered where they end past the frame's size.
+    /// Fills `out` with the bytes from `at` on. `Range` is answered where they end past the frame's
+    /// size.
     pub fn read(&self, at: u32, out: &mut [u8]) -> Result<(), Range>
         ensures range { IsErr result ↔ (length self.now.bytes < at + length out.old) }
         ensures ok { OnOk result (out.new ≡ take (length out.old) (drop at self.now.bytes)) }
@@ -60,10 +61,14 @@ impl Frame {
         Ok(())
     }
 
-    /// Sets the bytes from `at` on to `bytes`, and no others. `Range` is answered where they end past the frame's size.
+    /// Sets the bytes from `at` on to `bytes`, and no others. `Range` is answered where they end
+    /// past the frame's size.
     pub fn write(&mut self, at: u32, bytes: &[u8]) -> Result<(), Range>
         ensures range { IsErr result ↔ (length self.old.bytes < at + length bytes.now) }
-        ensures ok { OnOk result (self.new ≡ record self.old { bytes = take at self.old.bytes ++ (bytes.now ++ drop (at + length bytes.now) self.old.bytes) }) }
+        ensures ok { OnOk result (self.new ≡ record self.old {
+          bytes = take at self.old.bytes ++
+              (bytes.now ++ drop (at + length bytes.now) self.old.bytes);
+        }) }
         ensures err { OnErr result (self.new ≡ self.old) }
     {
         if !self.holds(at, bytes.len()) {

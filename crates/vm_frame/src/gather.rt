@@ -47,7 +47,9 @@ pub fn scatter(entries: &[SgEntry], pages: &mut [Page], at: u32, from: &[u8])
     requires sound { IsSound entries.now pages.old }
     requires within { at + length from.now ≤ length (scatter_bytes entries.now pages.old) }
     ensures sound { IsSound entries.now pages.new }
-    ensures bytes { scatter_bytes entries.now pages.new ≡ take at (scatter_bytes entries.now pages.old) ++ (from.now ++ drop (at + length from.now) (scatter_bytes entries.now pages.old)) }
+    ensures bytes { scatter_bytes entries.now pages.new ≡
+        take at (scatter_bytes entries.now pages.old) ++
+        (from.now ++ drop (at + length from.now) (scatter_bytes entries.now pages.old)) }
     ensures numbers { map (λ page. page.number) pages.new ≡ map (λ page. page.number) pages.old }
 {
     // How many bytes of the entries that are left come before the next one that is to be set.
@@ -63,12 +65,15 @@ pub fn scatter(entries: &[SgEntry], pages: &mut [Page], at: u32, from: &[u8])
     }
 }
 
-/// Fills the front of `into` with an entry's bytes behind its first `skip`, as far as they and `into` go. Answers how many.
+/// Fills the front of `into` with an entry's bytes behind its first `skip`, as far as they and
+/// `into` go. Answers how many.
 fn read_entry(entry: SgEntry, pages: &[Page], skip: u32, into: &mut [u8]) -> usize
-    requires fits { place_in_page entry.start + entry.len ≤ length (page_bytes pages.now (page_number entry.start)) }
+    requires fits { place_in_page entry.start + entry.len ≤
+        length (page_bytes pages.now (page_number entry.start)) }
     requires within { skip ≤ entry.len }
     ensures count { result ≡ min (entry.len - skip) (length into.old) }
-    ensures read { into.new ≡ take result (drop skip (entry_bytes pages.now entry)) ++ drop result into.old }
+    ensures read { into.new ≡ take result (drop skip (entry_bytes pages.now entry)) ++
+        drop result into.old }
 {
     let count = ((entry.len - skip) as usize).min(into.len());
     let page_size = u64::from(PAGE_SIZE);
@@ -77,15 +82,21 @@ fn read_entry(entry: SgEntry, pages: &[Page], skip: u32, into: &mut [u8]) -> usi
     count
 }
 
-/// Sets an entry's bytes behind its first `skip` to those of `from`, as far as they and `from` go. Answers how many.
+/// Sets an entry's bytes behind its first `skip` to those of `from`, as far as they and `from` go.
+/// Answers how many.
 fn write_entry(entry: SgEntry, pages: &mut [Page], skip: u32, from: &[u8]) -> usize
     requires whole { All (λ page. length page.bytes ≡ 4096) pages.old }
-    requires fits { place_in_page entry.start + entry.len ≤ length (page_bytes pages.old (page_number entry.start)) }
+    requires fits { place_in_page entry.start + entry.len ≤
+        length (page_bytes pages.old (page_number entry.start)) }
     requires in_a_page { place_in_page entry.start + entry.len ≤ 4096 }
     requires within { skip ≤ entry.len }
     ensures count { result ≡ min (entry.len - skip) (length from.now) }
-    ensures here { page_bytes pages.new (page_number entry.start) ≡ take (place_in_page entry.start + skip) (page_bytes pages.old (page_number entry.start)) ++ (take result from.now ++ drop (place_in_page entry.start + skip + result) (page_bytes pages.old (page_number entry.start))) }
-    ensures others { (other : ℕ) → other ≢ page_number entry.start → page_bytes pages.new other ≡ page_bytes pages.old other }
+    ensures here { page_bytes pages.new (page_number entry.start) ≡
+        take (place_in_page entry.start + skip) (page_bytes pages.old (page_number entry.start)) ++
+        (take result from.now ++ drop (place_in_page entry.start + skip + result)
+        (page_bytes pages.old (page_number entry.start))) }
+    ensures others { (other : ℕ) → other ≢ page_number entry.start →
+        page_bytes pages.new other ≡ page_bytes pages.old other }
     ensures numbers { map (λ page. page.number) pages.new ≡ map (λ page. page.number) pages.old }
     ensures whole { All (λ page. length page.bytes ≡ 4096) pages.new }
 {

@@ -21,8 +21,10 @@ pub fn write_page(pages: &mut [Page], number: u64, at: usize, from: &[u8])
     requires whole { All (λ page. length page.bytes ≡ 4096) pages.old }
     requires within { at + length from.now ≤ length (page_bytes pages.old number) }
     requires in_a_page { at ≤ 4096 }
-    ensures here { page_bytes pages.new number ≡ take at (page_bytes pages.old number) ++ (from.now ++ drop (at + length from.now) (page_bytes pages.old number)) }
-    ensures others { (other : ℕ) → other ≢ number → page_bytes pages.new other ≡ page_bytes pages.old other }
+    ensures here { page_bytes pages.new number ≡ take at (page_bytes pages.old number) ++
+        (from.now ++ drop (at + length from.now) (page_bytes pages.old number)) }
+    ensures others { (other : ℕ) → other ≢ number →
+        page_bytes pages.new other ≡ page_bytes pages.old other }
     ensures numbers { map (λ page. page.number) pages.new ≡ map (λ page. page.number) pages.old }
     ensures whole { All (λ page. length page.bytes ≡ 4096) pages.new }
 {

@@ -9,7 +9,8 @@ pub struct SgEntry {
     pub len: u32,
 }
 
-/// What is wrong with an entry of a scatter list. It is looked for in the order ZeroLen, Outside, Twice.
+/// What is wrong with an entry of a scatter list. It is looked for in the order ZeroLen, Outside,
+/// Twice.
 ///
 /// Source: own.
 #[derive(Clone, Copy, Debug, PartialEq, Eq)]

@@ -7,7 +7,8 @@ use crate::gather::{gather, scatter, total_of};
 use std::marker::Model;
 use vm_mem::{Page, Store};
 
-/// As many entries as a user's memory has room for: those that a command page holds behind a command that queues a buffer.
+/// As many entries as a user's memory has room for: those that a command page holds behind a
+/// command that queues a buffer.
 ///
 /// Source: own.
 pub const MAX_ENTRIES: usize = 249;
@@ -17,8 +18,8 @@ pub const MAX_ENTRIES: usize = 249;
 /// Source: own.
 pub const MAX_PAGES: usize = 227;
 
-/// A user's memory: pages of a guest, and the entries that name its bytes in them. The entries have no fault on the pages,
-/// and the vector of entries has room for `MAX_ENTRIES`.
+/// A user's memory: pages of a guest, and the entries that name its bytes in them. The entries have
+/// no fault on the pages, and the vector of entries has room for `MAX_ENTRIES`.
 ///
 /// Source: own, after the Linux V4L2 interface, `V4L2_MEMORY_USERPTR`.
 #[derive(Drop)]
@@ -35,7 +36,8 @@ impl Model for User {
 
     ghost view = { λ u. record { entries = u.entries.items; pages = u.pages.items } };
 
-    ghost invariant = { λ u. IsSound u.entries.items u.pages.items × (249 ≤ vec_capacity u.entries) };
+    ghost invariant = { λ u. IsSound u.entries.items u.pages.items ×
+        (249 ≤ vec_capacity u.entries) };
 }
 
 impl Store for User {
@@ -43,7 +45,10 @@ impl Store for User {
 
     ghost bytes_of = { λ user. scatter_bytes user.entries user.pages };
 
-    ghost rest_of = { λ user. record { entries = user.entries; numbers = map (λ page. page.number) user.pages } };
+    ghost rest_of = { λ user. record {
+      entries = user.entries;
+      numbers = map (λ page. page.number) user.pages;
+    } };
 
     fn size(&self) -> u32 {
         total_of(self.entries.as_slice(), self.pages.as_slice())

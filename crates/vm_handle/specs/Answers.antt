@@ -48,7 +48,8 @@ row_from l line call = row_of (state_of l) line 0 call
 
 abbrev pub answered_by : Option Errno → LogState → ℕ → Call → LogState
 answered_by (Some errno) l line call = answered_with l line call (Refused errno) l.home
-answered_by None l line call = answered_with l line call (row_from l line call).reply (l.home ++ makes line call)
+answered_by None l line call =
+    answered_with l line call (row_from l line call).reply (l.home ++ makes line call)
 
 -- the log once a call is answered by the first refusal of its row that applies, or else by the
 -- row's reply
@@ -78,7 +79,9 @@ with_sent held (Some h) = held ++ h ∷ []
 
 -- A call crosses: its bytes stand at the front, the memory that goes along behind those that are
 -- there, and it is underway.
-pub record GoesOver (c : Crossing) (h : HandleState) (line : ℕ) (call : Call) (out : List ℕ) (held : List Held) (started : Started) (h' : HandleState) (out' : List ℕ) (held' : List Held) : Type 0 where
+pub record GoesOver (c : Crossing) (h : HandleState) (line : ℕ) (call : Call) (out : List ℕ)
+    (held : List Held) (started : Started) (h' : HandleState) (out' : List ℕ)
+    (held' : List Held) : Type 0 where
   pub along : Option Held
   pub log : LogState
   pub sends : Sends (goes_along (state_of h.log) call) (with_line h.log) call along log
@@ -88,7 +91,8 @@ pub record GoesOver (c : Crossing) (h : HandleState) (line : ℕ) (call : Call) 
   pub memories : held' ≡ with_sent held along
 
 -- A call is answered without the device, and logged so.
-pub record StaysHere (h : HandleState) (line : ℕ) (call : Call) (out : List ℕ) (held : List Held) (started : Started) (h' : HandleState) (out' : List ℕ) (held' : List Held) : Type 0 where
+pub record StaysHere (h : HandleState) (line : ℕ) (call : Call) (out : List ℕ) (held : List Held)
+    (started : Started) (h' : HandleState) (out' : List ℕ) (held' : List Held) : Type 0 where
   pub log : LogState
   pub answers : AnswersHere (with_line h.log) line call log
   pub answer : started ≡ Answered
@@ -97,18 +101,23 @@ pub record StaysHere (h : HandleState) (line : ℕ) (call : Call) (out : List �
   pub memories : held' ≡ held
 
 -- A line's call is begun. Where it waits, nothing is logged.
-abbrev pub Starts : Way → HandleState → ℕ → Call → List ℕ → List Held → Started → HandleState → List ℕ → List Held → Type 0
-Starts (Crosses c) h line call out held started h' out' held' = GoesOver c h line call out held started h' out' held'
-Starts AnsweredHere h line call out held started h' out' held' = StaysHere h line call out held started h' out' held'
+abbrev pub Starts : Way → HandleState → ℕ → Call → List ℕ → List Held → Started → HandleState →
+    List ℕ → List Held → Type 0
+Starts (Crosses c) h line call out held started h' out' held' =
+    GoesOver c h line call out held started h' out' held'
+Starts AnsweredHere h line call out held started h' out' held' =
+    StaysHere h line call out held started h' out' held'
 Starts Waits h line call out held started h' out' held' =
-    (started ≡ Wait) × (h' ≡ record h { log = with_line h.log; stage = Waiting line call }) × (out' ≡ out) × (held' ≡ held)
+    (started ≡ Wait) × (h' ≡ record h { log = with_line h.log; stage = Waiting line call }) ×
+    (out' ≡ out) × (held' ≡ held)
 Starts TouchesMemory h line call out held started h' out' held' = ⊥
 
 -- ---- a call is answered by the device
 
 -- From this state the call may have this reply, this is the device's answer then, and these
 -- memories come with it.
-pub record AnswersWith (s : LocalState) (line : ℕ) (call : Call) (response : Response) (held : List Held) : Type 0 where
+pub record AnswersWith (s : LocalState) (line : ℕ) (call : Call) (response : Response)
+    (held : List Held) : Type 0 where
   pub reply : Reply
   pub next : LocalState
   pub session : ℕ
@@ -143,7 +152,8 @@ with_given l (Some held) = given_with l held.mem
 
 -- the line is answered once its call has an answer here
 abbrev pub answered_at : Way → HandleState → ℕ → Call → HandleState
-answered_at AnsweredHere h line call = record h { log = answered_here h.log line call; stage = AtRest }
+answered_at AnsweredHere h line call =
+    record h { log = answered_here h.log line call; stage = AtRest }
 answered_at way h line call = h
 
 -- A call that waits is answered once it has an answer: that is once a buffer of its queue is done.
@@ -156,4 +166,7 @@ awoken (Waiting line call) h = answered_at (way_from h call) h line call
 -- waited for its buffer
 abbrev pub delivered : HandleState → EventMsg → Option Held → HandleState
 delivered h msg held =
-    awoken h.stage (record h { log = with_given (with_steps h.log (made_by (state_of h.log).model msg)) held })
+    awoken h.stage (record h {
+      log = with_given
+          (with_steps h.log (made_by (state_of h.log).model msg)) held;
+    })

@@ -96,7 +96,8 @@ is_dqbuf call = false
 -- the stage fits, but a dqbuf that waits may have an answer by now
 abbrev pub FitsUnwoken : ℕ → LocalState → Away → Bool → Stage → Type 0
 FitsUnwoken session s away unanswered AtRest = FitsStage session s away unanswered AtRest
-FitsUnwoken session s away unanswered (Underway line call) = FitsStage session s away unanswered (Underway line call)
+FitsUnwoken session s away unanswered (Underway line call) =
+    FitsStage session s away unanswered (Underway line call)
 FitsUnwoken session s away unanswered (Waiting line call) =
     (unanswered ≡ true) × (away ≡ Nothing) × (is_dqbuf call ≡ true)
 

@@ -12,4 +12,5 @@ use Rattle.vm_exchange.specs.Exchange.{crossing_of}
 abbrev pub StepsLeaveCrossings : Type 0
 StepsLeaveCrossings =
     (session : ℕ) (s t : LocalState) (e : Entry) (call : Call) →
-    IsReached s → IsStep e → after s e ≡ Some t → IsSome (crossing_of session s call) → IsSome (crossing_of session t call)
+    IsReached s → IsStep e → after s e ≡ Some t → IsSome (crossing_of session s call) →
+    IsSome (crossing_of session t call)

@@ -48,7 +48,8 @@ steps_of m msg = made_by m msg ++ Give ∷ []
 -- What is owed comes with this message: a buffer with its memory, or an event.
 abbrev pub GivesItem : LocalState → ℕ → OwedItem → EventMsg → Option Held → Type 0
 GivesItem s t (OwedBuffer i) (Dequeued session b) (Some held) =
-    (b.kind ≡ t) × (b.index ≡ i) × (held.queue ≡ t) × (held.index ≡ i) × IsMemory s (memory_at s t i) held.mem
+    (b.kind ≡ t) × (b.index ≡ i) × (held.queue ≡ t) × (held.index ≡ i) ×
+    IsMemory s (memory_at s t i) held.mem
 GivesItem s t (Sync frame) (Happened session event) None = Unit {0}
 GivesItem s t item msg held = ⊥
 

@@ -69,7 +69,8 @@ fn awake_line(
 ) -> Stage
     requires { KeepsUnwoken log.old session (Waiting line call.now) }
     ensures awoken { record { log = log.new; session = session; stage = result } ≡
-        awoken (Waiting line call.now) (record { log = log.old; session = session; stage = Waiting line call.now }) }
+        awoken (Waiting line call.now)
+        (record { log = log.old; session = session; stage = Waiting line call.now }) }
     ensures keeps { Keeps log.new session result }
 {
     match way_from(session, log, call) {

@@ -108,7 +108,9 @@ impl Handle {
         requires payload { touches_bytes call.now ≡ false }
         requires out { 4096 ≤ length out.old }
         requires held { vec_len held.old < vec_capacity held.old }
-        ensures starts { Starts (way_from self.old call.now) self.old line call.now out.old held.old.items result self.new out.new held.new.items }
+        ensures starts { Starts
+            (way_from self.old call.now) self.old line call.now out.old held.old.items result
+            self.new out.new held.new.items }
         ensures fits { IfSome (crossing_from self.old call.now) (λ c. IsCrossing c) }
         ensures room { vec_capacity held.new ≡ vec_capacity held.old }
     {
@@ -138,7 +140,8 @@ impl Handle {
     /// the state of the log. An open that is answered ok brings the session's id.
     pub fn reply(&mut self, line: u32, call: &Call, response: &Response, held: &mut Vec<Held>)
         requires underway { self.old.stage ≡ Underway line call.now }
-        requires answer { AnswersWith (state_of self.old.log) line call.now response.now held.old.items }
+        requires answer { AnswersWith
+            (state_of self.old.log) line call.now response.now held.old.items }
         ensures replied { (reply : Reply) → IsAnswer
             (state_of self.old.log) line call.now response.now reply →
             self.new ≡ with_reply self.old line call.now reply response.now held.old.items }
@@ -195,7 +198,8 @@ impl Handle {
             IsDone (lease_in self.old.log.away) lease }
         ensures other { IsErr result ↔ (is_lent_to self.old.log.away lease.line ≡ false) }
         ensures back { IfErr result (λ l. l ≡ lease) }
-        ensures ok { OnOk result (self.new ≡ record self.old { log = given_back self.old.log lease }) }
+        ensures ok { OnOk result
+            (self.new ≡ record self.old { log = given_back self.old.log lease }) }
         ensures err { OnErr result (self.new ≡ self.old) }
     {
         self.log.give_back(lease)

@@ -13,11 +13,13 @@ pub record HomeState : Type 0 where
   pub places : List (Option Mem)
   pub room : ℕ
 
--- what is at home of the memory with this number; the list has a place for each memory that was made
+-- what is at home of the memory with this number; the list has a place for each memory that was
+-- made
 abbrev pub home_of : List (Option Mem) → ℕ → Option Mem
 home_of home m = slice_index_or home m None
 
--- The handle still has the memory: a name is bound to it, or the handle is open and it is that of one of its buffers.
+-- The handle still has the memory: a name is bound to it, or the handle is open and it is that of
+-- one of its buffers.
 abbrev pub is_kept : LocalState → ℕ → Bool
 is_kept s m = is_named s m || (s.opened && (is_of_device s m || is_in_use s m))
 
@@ -26,7 +28,8 @@ abbrev pub is_frame : Mem → Bool
 is_frame (OfFrame frame) = true
 is_frame (OfUser user) = false
 
--- It is the memory with this number: it has its bytes, and is a frame where a buffer of the device's making has it.
+-- It is the memory with this number: it has its bytes, and is a frame where a buffer of the
+-- device's making has it.
 pub record IsMemory (s : LocalState) (m : ℕ) (mem : Mem) : Type 0 where
   pub bytes : mem_bytes mem ≡ bytes_of s m
   pub frame : is_of_device s m ≡ true → is_frame mem ≡ true

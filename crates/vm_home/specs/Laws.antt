@@ -34,7 +34,8 @@ EachHasOneOwner = (s : LocalState) → IsReached s → HasOneOwner s
 abbrev pub OthersStay : Type 0
 OthersStay =
     (s t : LocalState) (e : Entry) (out : Option ℕ) (home : List (Option Mem)) →
-    IsReached s → moves_at s e ≡ false → after s e ≡ Some t → AreInPlace s out home → AreInPlace t out home
+    IsReached s → moves_at s e ≡ false → after s e ≡ Some t → AreInPlace s out home →
+    AreInPlace t out home
 
 -- ---- to the device, and back
 
@@ -49,24 +50,30 @@ QueuedGoesAlong =
 -- once the call is answered it is the device's
 abbrev pub QueuedStaysAway : Type 0
 QueuedStaysAway =
-    (s next : LocalState) (line t i used ts : ℕ) (user : Option (List ℕ)) (home : List (Option Mem)) →
+    (s next : LocalState) (line t i used ts : ℕ) (user : Option (List ℕ))
+    (home : List (Option Mem)) →
     IsReached s → called s line (QBuf t i user used ts) Done ≡ Some next →
     AreInPlace s (goes_along s (QBuf t i user used ts)) home → AreInPlace next None home
 
 -- a buffer that is given has its memory at home
 abbrev pub GivenComesHome : Type 0
 GivenComesHome =
-    (s next : LocalState) (t i : ℕ) (owed : List Owed) (mem : Mem) (out : Option ℕ) (home : List (Option Mem)) →
-    IsReached s → s.owed ≡ record { queue = t; item = OwedBuffer i } ∷ owed → after s Give ≡ Some next →
+    (s next : LocalState) (t i : ℕ) (owed : List Owed) (mem : Mem) (out : Option ℕ)
+    (home : List (Option Mem)) →
+    IsReached s → s.owed ≡ record { queue = t; item = OwedBuffer i } ∷ owed →
+    after s Give ≡ Some next →
     IsMemory s (memory_at s t i) mem → is_just out (memory_at s t i) ≡ false →
     AreInPlace s out home → AreInPlace next out (slice_set home (memory_at s t i) (Some mem))
 
 -- so have the buffers of queues that are stopped, and those that are made
 abbrev pub StoppedComeHome : Type 0
 StoppedComeHome =
-    (s next : LocalState) (line : ℕ) (call : Call) (reply : Reply) (held : List Held) (home : List (Option Mem)) →
-    IsReached s → is_stopping call ≡ true → is_refusal reply ≡ false → called s line call reply ≡ Some next →
-    ComeBack s next call held → AreInPlace s None home → AreInPlace next None (home_with s call held home)
+    (s next : LocalState) (line : ℕ) (call : Call) (reply : Reply) (held : List Held)
+    (home : List (Option Mem)) →
+    IsReached s → is_stopping call ≡ true → is_refusal reply ≡ false →
+    called s line call reply ≡ Some next →
+    ComeBack s next call held → AreInPlace s None home →
+    AreInPlace next None (home_with s call held home)
 
 -- ---- made
 
@@ -79,8 +86,10 @@ OpenHasNone =
 -- user memory that was made is at home, behind all others
 abbrev pub MadeIsHome : Type 0
 MadeIsHome =
-    (s next : LocalState) (line len off pages : ℕ) (u : List ℕ) (mem : Mem) (home : List (Option Mem)) →
-    IsReached s → called s line (UAlloc u len off) (Pages pages) ≡ Some next → mem_bytes mem ≡ replicate len 0 →
+    (s next : LocalState) (line len off pages : ℕ) (u : List ℕ) (mem : Mem)
+    (home : List (Option Mem)) →
+    IsReached s → called s line (UAlloc u len off) (Pages pages) ≡ Some next →
+    mem_bytes mem ≡ replicate len 0 →
     AreInPlace s None home → AreInPlace next None (home ++ Some mem ∷ [])
 
 -- ---- lent
@@ -92,22 +101,28 @@ TouchedIsHome =
     touches_bytes call ≡ true → IsUnrefused s call → AreInPlace s None home →
     IsThere s (touched s call) (home_of home (touched s call))
 
--- The call's work on it is the entry: the call has its reply, and the memory is at home with the bytes that it left.
+-- The call's work on it is the entry: the call has its reply, and the memory is at home with the
+-- bytes that it left.
 abbrev pub TouchedComesHome : Type 0
 TouchedComesHome =
-    (s : LocalState) (line : ℕ) (call : Call) (before after : Mem) (reply : Reply) (home : List (Option Mem)) →
+    (s : LocalState) (line : ℕ) (call : Call) (before after : Mem) (reply : Reply)
+    (home : List (Option Mem)) →
     IsReached s → touches_bytes call ≡ true → IsUnrefused s call →
-    IsMemory s (touched s call) before → IsDoneOn call before after reply → AreInPlace s (Some (touched s call)) home →
+    IsMemory s (touched s call) before → IsDoneOn call before after reply →
+    AreInPlace s (Some (touched s call)) home →
     (next : LocalState) × (called s line call reply ≡ Some next)
     × AreInPlace next None (slice_set home (touched s call) (Some after))
 
 -- ---- counted
 
--- a call makes at most 32 memories, and only one that queues a buffer brings entries to come, three at most
+-- a call makes at most 32 memories, and only one that queues a buffer brings entries to come, three
+-- at most
 abbrev pub CallAddsFew : Type 0
 CallAddsFew =
-    (s t : LocalState) (line : ℕ) (call : Call) (reply : Reply) → called s line call reply ≡ Some t →
-    (length t.memories ≤ length s.memories + 32) × (entries_to_come t ≤ entries_to_come s + entries_added call)
+    (s t : LocalState) (line : ℕ) (call : Call) (reply : Reply) →
+    called s line call reply ≡ Some t →
+    (length t.memories ≤ length s.memories + 32) ×
+    (entries_to_come t ≤ entries_to_come s + entries_added call)
 
 -- a step of the device makes none, and is one of those that were to come
 abbrev pub StepTakesOne : Type 0

@@ -1,5 +1,5 @@
--- Which memories a call moves: that which goes along with it, those that come back with its reply, and the one that it
--- touches.
+-- Which memories a call moves: that which goes along with it, those that come back with its reply,
+-- and the one that it touches.
 use Rattle.std.specs.Prelude.{ℕ, ◌≡◌, Bool, true, false, not, ◌&&◌, List, [], ◌∷◌, ◌++◌, All, Option, Some, None, length, map, take, drop, slice_set, if◌then◌else◌}
 use Rattle.std.specs.List.{flat_map, range_with_len}
 use Rattle.v4l_const.specs.Model.{queues as types_of}
@@ -112,7 +112,8 @@ stops s call = []
 -- the device makes frames for all buffers of a queue whose memory isn't the user's
 abbrev pub made_on : LocalState → ℕ → List Place
 made_on s t =
-    if is_user_ptr (queue_of s t).memory then [] else places_on t (range_with_len 0 (length (queue_of s t).buffers))
+    if is_user_ptr (queue_of s t).memory then []
+    else places_on t (range_with_len 0 (length (queue_of s t).buffers))
 
 abbrev pub made_by : LocalState → Call → List Place
 made_by next (ReqBufs t m n) = made_on next t
@@ -127,8 +128,8 @@ AreMemories s (p ∷ ps) (h ∷ hs) =
     (h.queue ≡ p.queue) × (h.index ≡ p.index)
     × IsMemory s (memory_at s p.queue p.index) h.mem × AreMemories s ps hs
 
--- Of the queues that the call stops nothing is owed; the memories that were queued on them come back first, as the state
--- before has them, and then the fresh ones, as the state after does.
+-- Of the queues that the call stops nothing is owed; the memories that were queued on them come
+-- back first, as the state before has them, and then the fresh ones, as the state after does.
 pub record ComeBack (s next : LocalState) (call : Call) (held : List Held) : Type 0 where
   pub settled : All (λ t. is_owed s t ≡ false) (stops s call)
   pub back : List Held
@@ -158,7 +159,9 @@ put_back s (h ∷ hs) home = put_back s hs (slice_set home (memory_at s h.queue 
 abbrev pub stopped_count : LocalState → Call → ℕ
 stopped_count s call = length (flat_map (queued_on s) (stops s call))
 
--- with the memories that come with a call's reply: first those that were queued, and then fresh ones behind all others
+-- with the memories that come with a call's reply: first those that were queued, and then fresh
+-- ones behind all others
 abbrev pub home_with : LocalState → Call → List Held → List (Option Mem) → List (Option Mem)
 home_with s call held home =
-    put_back s (take (stopped_count s call) held) home ++ map (λ h. Some h.mem) (drop (stopped_count s call) held)
+    put_back s (take (stopped_count s call) held) home ++
+    map (λ h. Some h.mem) (drop (stopped_count s call) held)

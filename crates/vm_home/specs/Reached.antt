@@ -18,8 +18,10 @@ HasMemory s t i m = (buffer_of (queue_of s t) i).memory ≡ Some m
 abbrev pub IsBusy : LocalState → ℕ → ℕ → Type 0
 IsBusy s t i = is_idle (buffer_of (queue_of s t) i).state ≡ false
 
--- Each memory has one owner: two buffers that aren't Idle never have one memory, and no other buffer has one that the
--- device made for a buffer.
+-- Each memory has one owner: two buffers that aren't Idle never have one memory, and no other
+-- buffer has one that the device made for a buffer.
 pub record HasOneOwner (s : LocalState) : Type 0 where
-  pub busy : (t i u j m : ℕ) → IsBusy s t i → IsBusy s u j → HasMemory s t i m → HasMemory s u j m → (t ≡ u) × (i ≡ j)
-  pub frames : (t i u j m : ℕ) → is_user_ptr (queue_of s t).memory ≡ false → HasMemory s t i m → HasMemory s u j m → (t ≡ u) × (i ≡ j)
+  pub busy : (t i u j m : ℕ) → IsBusy s t i → IsBusy s u j → HasMemory s t i m → HasMemory s u j m →
+      (t ≡ u) × (i ≡ j)
+  pub frames : (t i u j m : ℕ) → is_user_ptr (queue_of s t).memory ≡ false → HasMemory s t i m →
+      HasMemory s u j m → (t ≡ u) × (i ≡ j)

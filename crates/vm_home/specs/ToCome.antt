@@ -6,8 +6,8 @@ use Rattle.vm_local.specs.declared.entry.Entry.{Entry}
 use Rattle.vm_local.specs.declared.entry.Entry.TheVariants.{Called}
 use Rattle.vm_local.specs.State.{LocalState}
 
--- How many entries are still to come for what was begun: for each queued buffer that its frame is finished and that the
--- frame's event and the buffer are given, and one for each thing owed.
+-- How many entries are still to come for what was begun: for each queued buffer that its frame is
+-- finished and that the frame's event and the buffer are given, and one for each thing owed.
 abbrev pub entries_to_come : LocalState → ℕ
 entries_to_come s = 3 * sum_by (λ q. length q.queued) s.queues + length s.owed
 

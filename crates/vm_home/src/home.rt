@@ -73,7 +73,8 @@ impl Home {
     /// Takes the memory with this number, if it is at home.
     pub fn take(&mut self, number: u64) -> Option<Mem>
         ensures mem { result ≡ home_of self.old.places number }
-        ensures home { self.new ≡ record self.old { places = slice_set self.old.places number None } }
+        ensures home { self.new ≡
+            record self.old { places = slice_set self.old.places number None } }
     {
         take_from(&mut self.places, number)
     }
@@ -81,7 +82,10 @@ impl Home {
     /// Puts a memory in the place of its number.
     pub fn put(&mut self, number: u64, mem: Mem)
         requires { number < length self.old.places }
-        ensures { self.new ≡ record self.old { places = slice_set self.old.places number (Some mem) } }
+        ensures { self.new ≡ record self.old {
+          places = slice_set self.old.places number
+              (Some mem);
+        } }
     {
         put_in(&mut self.places, number, mem);
     }

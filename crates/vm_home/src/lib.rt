@@ -1,4 +1,5 @@
-//! The memories of a handle that are with the driver, and which of them each entry of its log moves.
+//! The memories of a handle that are with the driver, and which of them each entry of its log
+//! moves.
 //!
 //! Begin with `Home`. Its main definition is where each memory is, in `specs/Home.antt`.
 #![tactic(auto)]

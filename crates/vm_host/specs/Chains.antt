@@ -90,4 +90,5 @@ sent_reply p descs response held = sent_with p descs (response_bytes response) h
 
 -- with an event, whose memory goes behind those that the chain holds
 abbrev pub sent_event : Parcel → List Desc → EventMsg → Option Held → Sent
-sent_event p descs msg memory = sent_with p descs (event_bytes msg) (p.held ++ option_to_list memory)
+sent_event p descs msg memory =
+    sent_with p descs (event_bytes msg) (p.held ++ option_to_list memory)

@@ -54,4 +54,5 @@ ready_ids h = filter (λ session. not (waits h session)) (ready_in h.device)
 
 -- the sessions whose waiting call can go on, by rising id
 abbrev pub resumable_ids : HostState → List ℕ
-resumable_ids h = filter (λ session. is_at_rest (session_of h.device session)) (map (λ w. w.session) h.waiting)
+resumable_ids h =
+    filter (λ session. is_at_rest (session_of h.device session)) (map (λ w. w.session) h.waiting)

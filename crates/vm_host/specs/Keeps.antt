@@ -48,7 +48,8 @@ pub record CanGoOn (d : DeviceState) (p : Parcel) : Type 0 where
 -- the sessions of these calls rise, from a number on, and are below another one
 abbrev pub RiseWithin : ℕ → ℕ → List Waiting → Type 0
 RiseWithin from end [] = ⊤
-RiseWithin from end (w ∷ ws) = (from ≤ w.session) × (w.session < end) × RiseWithin (w.session + 1) end ws
+RiseWithin from end (w ∷ ws) =
+    (from ≤ w.session) × (w.session < end) × RiseWithin (w.session + 1) end ws
 
 -- No more sessions were opened than may be, and the calls that wait are calls of these, by rising
 -- session. So there are never more of them than sessions may be opened.

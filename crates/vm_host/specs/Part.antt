@@ -39,7 +39,8 @@ pub record Returning : Type 0 where
 -- what a chain with these descriptors, or with a fault, asks
 abbrev pub ask_by : Result (List Desc) ChainFault → Parcel → Ask
 ask_by (Err fault) p = Unusable
-ask_by (Ok descs) p = if nat_lt (writable_bytes descs) 8 then Unusable else Judged (asked_by descs p.pages)
+ask_by (Ok descs) p =
+    if nat_lt (writable_bytes descs) 8 then Unusable else Judged (asked_by descs p.pages)
 
 -- the bytes behind the command that a chain asks; none where it asks none
 abbrev pub behind_asked : Result Command CmdFault → List Desc → Parcel → List ℕ
@@ -83,21 +84,27 @@ call_for session calls = found (λ c. c.session) session calls
 
 -- the reply of so many bytes that goes back for a posting
 abbrev pub returning : Posting → List ℕ → List Held → Returning
-returning m bytes held = record { reply = record { who = m.request.who; bytes = bytes }; held = held }
+returning m bytes held =
+    record { reply = record { who = m.request.who; bytes = bytes }; held = held }
 
 -- a posting's command is done, and answered
 abbrev pub Completed : Posting → Command → DeviceState → Returning → DeviceState → Type 0
 Completed m c d r d' =
-    (a : Answer) × Performs d c m.behind m.held a × (r ≡ returning m (response_bytes a.response) a.held) × (d' ≡ a.device)
+    (a : Answer) × Performs d c m.behind m.held a ×
+    (r ≡ returning m (response_bytes a.response) a.held) × (d' ≡ a.device)
 
 -- a command that has to wait isn't answered yet
 abbrev pub ExecutedCommand : Bool → Posting → Command → Part → Option Returning → Part → Type 0
 ExecutedCommand true m c s out s' =
     (out ≡ None)
     × ((session : ℕ) × (named_session c ≡ Some session)
-    × (s' ≡ record s { calls = put_in (λ w. w.session) (record { session = session; posting = m }) s.calls }))
+    × (s' ≡ record s {
+      calls = put_in (λ w. w.session)
+          (record { session = session; posting = m }) s.calls;
+    }))
 ExecutedCommand false m c s out s' =
-    (r : Returning) × (d' : DeviceState) × Completed m c s.device r d' × (out ≡ Some r) × (s' ≡ record s { device = d' })
+    (r : Returning) × (d' : DeviceState) × Completed m c s.device r d' × (out ≡ Some r) ×
+    (s' ≡ record s { device = d' })
 
 abbrev pub ExecutedAsk : Ask → Posting → Part → Option Returning → Part → Type 0
 ExecutedAsk Unusable m s out s' = (out ≡ Some (returning m [] m.held)) × (s' ≡ s)
@@ -114,18 +121,21 @@ Executed m s out s' = ExecutedAsk m.request.asks m s out s'
 abbrev pub ResumedCall : Option Call → Part → Returning → Part → Type 0
 ResumedCall None s r s' = ⊥
 ResumedCall (Some w) s r s' =
-    (c : Command) × (d' : DeviceState) × (w.posting.request.asks ≡ Judged (Ok c)) × Completed w.posting c s.device r d'
+    (c : Command) × (d' : DeviceState) × (w.posting.request.asks ≡ Judged (Ok c)) ×
+    Completed w.posting c s.device r d'
     × (s' ≡ record { device = d'; calls = taken_out (λ w. w.session) w.session s.calls })
 
 abbrev pub Resumed : ℕ → Part → Returning → Part → Type 0
 Resumed session s r s' =
-    (is_at_rest (session_of s.device session) ≡ true) × ResumedCall (call_for session s.calls) s r s'
+    (is_at_rest (session_of s.device session) ≡ true) ×
+    ResumedCall (call_for session s.calls) s r s'
 
 -- The oldest event that is unsent is sent, if one is.
 abbrev pub AnnouncedTo : List ℕ → Part → Delivery → Part → Type 0
 AnnouncedTo [] s delivery s' = ⊥
 AnnouncedTo (session ∷ sessions) s delivery s' =
-    (delivery.session ≡ session) × Sends s.device s.device.unsent (Some (delivery.msg, delivery.held)) s'.device
+    (delivery.session ≡ session) ×
+    Sends s.device s.device.unsent (Some (delivery.msg, delivery.held)) s'.device
     × (s'.calls ≡ s.calls)
 
 abbrev pub Announced : Part → Delivery → Part → Type 0
@@ -136,7 +146,8 @@ Announced s delivery s' = AnnouncedTo s.device.unsent s delivery s'
 -- a chain goes back with just this: as many bytes were written, and it has these memories
 abbrev pub Carries : Returning → Sent → Type 0
 Carries r sent =
-    (sent.used ≡ length r.reply.bytes) × (sent.parcel.held ≡ r.held) × (sent.parcel.who ≡ r.reply.who)
+    (sent.used ≡ length r.reply.bytes) × (sent.parcel.held ≡ r.held) ×
+    (sent.parcel.who ≡ r.reply.who)
 
 -- a chain goes back exactly where something is returned, and with just that
 abbrev pub CarriesIf : Option Returning → Option Sent → Type 0
@@ -146,7 +157,8 @@ CarriesIf (Some r) sent = (s : Sent) × (sent ≡ Some s) × Carries r s
 -- A parcel that was taken is served as the device's part of the step says.
 abbrev pub IsExecuted : HostState → Parcel → Option Sent → HostState → Type 0
 IsExecuted h p sent h' =
-    (out : Option Returning) × Executed (posting_of p) (part_of h) out (part_of h') × CarriesIf out sent
+    (out : Option Returning) × Executed (posting_of p) (part_of h) out (part_of h') ×
+    CarriesIf out sent
 
 -- The call of a session that waits goes on as the device's part of the step says.
 abbrev pub IsResumed : ℕ → HostState → HostState → Type 0
@@ -157,4 +169,5 @@ IsResumed session h h' = (r : Returning) × Resumed session (part_of h) r (part_
 abbrev pub IsAnnounced : Parcel → HostState → Sent → HostState → Type 0
 IsAnnounced p h sent h' =
     (delivery : Delivery) × Announced (part_of h) delivery (part_of h')
-    × (sent.used ≡ length (event_bytes delivery.msg)) × (sent.parcel.held ≡ p.held ++ option_to_list delivery.held)
+    × (sent.used ≡ length (event_bytes delivery.msg)) ×
+    (sent.parcel.held ≡ p.held ++ option_to_list delivery.held)

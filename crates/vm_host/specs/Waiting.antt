@@ -4,7 +4,8 @@ use Rattle.std.specs.Prelude.{ℕ, ◌==◌, nat_lt, if◌then◌else◌, List, 
 -- with one element more, behind those with lower numbers
 abbrev pub put_in : {A : Type 0} → (A → ℕ) → A → List A → List A
 put_in number x [] = x ∷ []
-put_in number x (y ∷ ys) = if nat_lt (number y) (number x) then y ∷ put_in number x ys else x ∷ (y ∷ ys)
+put_in number x (y ∷ ys) =
+    if nat_lt (number y) (number x) then y ∷ put_in number x ys else x ∷ (y ∷ ys)
 
 -- the first element with a number
 abbrev pub found : {A : Type 0} → (A → ℕ) → ℕ → List A → Option A

@@ -85,7 +85,8 @@ fn named_session(command: &Command) -> Option<u32>
 /// The session that a command has to wait for, if it has to.
 fn awaited_session(device: &Device, command: &Command) -> Option<u32>
     requires { FitsCall command.now }
-    ensures { result ≡ (if must_wait device.now command.now then named_session command.now else None) }
+    ensures { result ≡ (if must_wait device.now command.now then named_session command.now else
+        None) }
 {
     if device.must_wait(command) {
         named_session(command)
@@ -323,7 +324,8 @@ pub(crate) fn tell(device: &mut Device, descs: &[Desc], parcel: &mut Parcel) -> 
     requires held { length parcel.old.held + 1 ≤ parcel.old.room }
     ensures { (msg : EventMsg) × (memory : Option HeldMemory) ×
         Sends device.old device.old.unsent (Some (msg, memory)) device.new
-        × (record { used = result; parcel = parcel.new } ≡ sent_event parcel.old descs.now msg memory) }
+        × (record { used = result; parcel = parcel.new } ≡
+        sent_event parcel.old descs.now msg memory) }
 {
     let (msg, memory) = device.next_event().unwrap();
     write_event(descs, parcel, msg, memory)

@@ -51,7 +51,8 @@ impl Model for Host {
 
     // There is room for the bytes of as many pages as a chain has descriptors.
     ghost invariant = { λ h. IsSound (record { device = h.device; waiting = h.waiting.items })
-        × (h.device.opens ≤ vec_capacity h.waiting) × (h.chain.limit ≡ 64) × (65 ≤ vec_capacity h.descs) × (262144 ≤ vec_capacity h.bytes) };
+        × (h.device.opens ≤ vec_capacity h.waiting) × (h.chain.limit ≡ 64) ×
+        (65 ≤ vec_capacity h.descs) × (262144 ≤ vec_capacity h.bytes) };
 }
 
 /// How many of these sessions have no call that waits.

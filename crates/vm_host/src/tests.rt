@@ -25,7 +25,8 @@ fn desc(addr: u64, len: u32, flags: u16, next: u16) -> Desc {
     }
 }
 
-// A chain of two: so many bytes of the command's page are read, and so many of the reply's page may be written.
+// A chain of two: so many bytes of the command's page are read, and so many of the reply's page may
+// be written.
 fn chain(len: u32, room: u32) -> [Desc; 2] {
     [desc(COMMAND, len, NEXT, 1), desc(REPLY, room, WRITE, 0)]
 }
@@ -105,7 +106,8 @@ fn answer(alloc: Global, descs: &[Desc], numbers: [u32; 10]) -> Result<(u32, [u8
 
 #[test]
 fn commands_are_judged(rt: HostRuntime) -> Result<(), Fail> {
-    // The command's numbers, how many bytes of them are sent, the room for the reply; the used length and the reply.
+    // The command's numbers, how many bytes of them are sent, the room for the reply; the used
+    // length and the reply.
     let rows = [
         ([1, 0, 0, 0, 0, 0, 0, 0, 0, 0], 8, 64, 16, opened(0)),
         ([1, 7, 0, 0, 0, 0, 0, 0, 0, 0], 40, 16, 16, opened(0)),

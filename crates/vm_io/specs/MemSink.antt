@@ -9,7 +9,8 @@ pub record SinkState : Type 0 where
   pub piece : ℕ
   pub plan : Plan
 
--- a write of these bytes fails: it is to fail, or the room is used up and there is something to write
+-- a write of these bytes fails: it is to fail, or the room is used up and there is something to
+-- write
 abbrev pub Refuses : SinkState → List ℕ → Type 0
 Refuses sink bytes = IsDue sink.plan ⊎ ((length sink.held ≡ sink.size) × (0 < length bytes))
 

@@ -1,4 +1,5 @@
--- Which calls are to fail. Calls are numbered from 1, and all from the 2 ^ 64 - 1st on have that number.
+-- Which calls are to fail. Calls are numbered from 1, and all from the 2 ^ 64 - 1st on have that
+-- number.
 use Rattle.std.specs.Prelude.{ℕ, List, Contains}
 use Rattle.vm_io.specs.Faults.{next_count}
 

@@ -6,8 +6,8 @@ use crate::fault_plan::FaultPlan;
 use crate::{Failed, Sink};
 use std::marker::Model;
 
-/// A sink over room in memory, which takes a piece at a time, and fails at the calls that it is told
-/// to, and where its room is used up.
+/// A sink over room in memory, which takes a piece at a time, and fails at the calls that it is
+/// told to, and where its room is used up.
 #[derive(Drop)]
 pub struct MemSink {
     room: Vec<u8>,
@@ -23,17 +23,27 @@ impl Model for MemSink {
 
     ghost Value = { SinkState };
 
-    ghost view = { λ s. record { held = take s.at s.room.items; size = vec_len s.room; piece = s.piece; plan = s.plan } };
+    ghost view = { λ s. record {
+      held = take s.at s.room.items;
+      size = vec_len s.room;
+      piece = s.piece;
+      plan = s.plan;
+    } };
 
     ghost invariant = { λ s. (s.at ≤ vec_len s.room) × (1 ≤ s.piece) };
 }
 
 impl MemSink {
-    /// A sink that holds nothing yet, writes over `room` from its front, takes at most `piece` bytes
-    /// at a call, and fails at the calls with these numbers, counted from 1.
+    /// A sink that holds nothing yet, writes over `room` from its front, takes at most `piece`
+    /// bytes at a call, and fails at the calls with these numbers, counted from 1.
     pub fn new(room: Vec<u8>, piece: usize, fails: Vec<u64>) -> MemSink
         requires { 1 ≤ piece }
-        ensures { result ≡ record { held = []; size = vec_len room; piece = piece; plan = fresh_plan fails.items } }
+        ensures { result ≡ record {
+          held = [];
+          size = vec_len room;
+          piece = piece;
+          plan = fresh_plan fails.items;
+        } }
     {
         MemSink {
             room,
@@ -58,7 +68,8 @@ impl Sink for MemSink {
 
     fn write(&mut self, piece: &[u8]) -> Result<usize, Failed>
         ensures refused { IsErr result ↔ Refuses self.old piece.now }
-        ensures amount { IfOk result (λ n. n ≡ min self.old.piece (min (length piece.now) (self.old.size - length self.old.held))) }
+        ensures amount { IfOk result (λ n. n ≡
+            min self.old.piece (min (length piece.now) (self.old.size - length self.old.held))) }
         ensures ok { IfOk result (λ n. self.new ≡ after_write self.old (take n piece.now)) }
         ensures err { OnErr result (self.new ≡ after_write_fault self.old) }
 

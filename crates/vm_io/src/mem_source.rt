@@ -31,11 +31,15 @@ impl Model for MemSource {
 }
 
 impl MemSource {
-    /// A source that has these bytes left, gives at most `piece` of them at a call, and fails at the
-    /// calls with these numbers, counted from 1.
+    /// A source that has these bytes left, gives at most `piece` of them at a call, and fails at
+    /// the calls with these numbers, counted from 1.
     pub fn new(bytes: Vec<u8>, piece: usize, fails: Vec<u64>) -> MemSource
         requires { 1 ≤ piece }
-        ensures { result ≡ record { left = bytes.items; piece = piece; plan = fresh_plan fails.items } }
+        ensures { result ≡ record {
+          left = bytes.items;
+          piece = piece;
+          plan = fresh_plan fails.items;
+        } }
     {
         MemSource {
             bytes,
@@ -53,13 +57,15 @@ impl Source for MemSource {
 
     fn read(&mut self, buf: &mut [u8]) -> Result<usize, Failed>
         ensures due { IsErr result ↔ IsDue self.old.plan }
-        ensures amount { IfOk result (λ n. n ≡ min self.old.piece (min (length buf.old) (length self.old.left))) }
+        ensures amount { IfOk result (λ n. n ≡
+            min self.old.piece (min (length buf.old) (length self.old.left))) }
         ensures bytes { IfOk result (λ n. buf.new ≡ take n self.old.left ++ drop n buf.old) }
         ensures ok { IfOk result (λ n. self.new ≡ after_read self.old n) }
         ensures err { OnErr result ((self.new ≡ after_read_fault self.old) × (buf.new ≡ buf.old)) }
 
         // What a source promises besides, as its piece is at least 1 and its count fits 64 bits.
-        ensures end { IfOk result (λ n. n ≡ 0 → 0 < length buf.new → NothingLeft (Some self.new.left)) }
+        ensures end { IfOk result (λ n. n ≡ 0 → 0 < length buf.new →
+            NothingLeft (Some self.new.left)) }
         ensures count { self.old.plan.faults ≤ self.new.plan.faults }
     {
         self.plan.call()?;

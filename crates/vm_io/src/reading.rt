@@ -52,9 +52,13 @@ pub fn read_all<S: Source>(alloc: Global, src: &mut S, limit: usize) -> Result<V
     ensures end { OnOk result (NothingLeft (S.left src.new)) }
     ensures within { IfOk result (λ bytes. vec_len bytes ≤ limit) }
 
-    // TooLong comes exactly where more than `limit` bytes came, ReadFault only where the faults rose.
-    ensures too_long { IsSome (S.left src.old) → (IsErrOf result ReadError.TooLong ↔ (limit < count_read (S.left src.old) (S.left src.new))) }
-    ensures fault { IsErrOf result ReadError.ReadFault → Rose (S.faults src.old) (S.faults src.new) }
+    // TooLong comes exactly where more than `limit` bytes came, ReadFault only where the faults
+    // rose.
+    ensures too_long { IsSome (S.left src.old) →
+        (IsErrOf result ReadError.TooLong ↔ (limit < count_read (S.left src.old)
+        (S.left src.new))) }
+    ensures fault { IsErrOf result ReadError.ReadFault →
+        Rose (S.faults src.old) (S.faults src.new) }
     // No read failed before any other answer: so none is tried again.
     ensures well { ¬ (IsErrOf result ReadError.ReadFault) → S.faults src.new ≡ S.faults src.old }
 

@@ -14,8 +14,8 @@ pub trait Source {
 
     /// Gives up to `buf.len()` of the bytes that are left, in order, at the buffer's front; what
     /// stands behind them in the buffer is not said. An answer of 0 to a buffer that isn't empty is
-    /// the end of input. After `Failed` the source may be read again. A call that goes well leaves the
-    /// count of faults.
+    /// the end of input. After `Failed` the source may be read again. A call that goes well leaves
+    /// the count of faults.
     fn read(&mut self, buf: &mut [u8]) -> Result<usize, Failed>
         ensures bound { IfOk result (λ n. n ≤ length buf.new) }
         ensures read { IfOk result (λ n. WasRead (left self.old) (left self.new) (take n buf.new)) }

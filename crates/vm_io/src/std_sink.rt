@@ -38,7 +38,8 @@ impl<W: Write> Sink for StdSink<W> {
 
     fn write(&mut self, piece: &[u8]) -> Result<usize, Failed>
         // What the writer got, where std knows its bytes.
-        ensures bytes { WriteAppends (W.contents self.old.stream) (W.contents self.new.stream) result piece.now }
+        ensures bytes { WriteAppends (W.contents self.old.stream)
+            (W.contents self.new.stream) result piece.now }
         ensures bound { IfOk result (λ n. n ≤ length piece.now) }
         ensures some { IfOk result (λ n. 0 < length piece.now → 0 < n) }
         ensures ok { OnOk result (self.new.faults ≡ self.old.faults) }

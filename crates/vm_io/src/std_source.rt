@@ -38,7 +38,8 @@ impl<R: Read> Source for StdSource<R> {
 
     fn read(&mut self, buf: &mut [u8]) -> Result<usize, Failed>
         // What the reader gives, where std knows its bytes.
-        ensures bytes { ReadConsumes (R.remaining self.old.stream) (R.remaining self.new.stream) result buf.new }
+        ensures bytes { ReadConsumes (R.remaining self.old.stream)
+            (R.remaining self.new.stream) result buf.new }
         ensures bound { IfOk result (λ n. n ≤ length buf.new) }
         ensures ok { OnOk result (self.new.faults ≡ self.old.faults) }
         ensures err { OnErr result (self.new.faults ≡ next_count self.old.faults) }

@@ -1,4 +1,5 @@
--- A line that touches a memory's bytes: its memory goes out, the call is done on it, and it comes back.
+-- A line that touches a memory's bytes: its memory goes out, the call is done on it, and it comes
+-- back.
 use Rattle.std.specs.Prelude.{ℕ, ◌≡◌, ◌+◌, ◌≤◌, List, length, take, drop, ◌++◌}
 use Rattle.sha2.specs.Sha256.{sha256}
 use Rattle.vm_mem.specs.Seeded.{seeded}
@@ -10,7 +11,8 @@ use Rattle.vm_local.specs.declared.reply.Reply.{Reply}
 use Rattle.vm_local.specs.declared.reply.Reply.TheVariants.{Done, Bytes, Digest}
 use Rattle.vm_lease.specs.declared.lease_out.LeaseOut.{LeaseOut}
 
--- a lease: the line and its call, the memory, and the reply, which means nothing before the call is done
+-- a lease: the line and its call, the memory, and the reply, which means nothing before the call is
+-- done
 pub record LeaseParts : Type 0 where
   pub line : ℕ
   pub call : Call
@@ -31,7 +33,8 @@ lent line call mem = record { line = line; call = call; mem = mem; reply = Done 
 
 -- the entry is that of the lease
 abbrev pub IsOf : LeaseOut → LeaseParts → Type 0
-IsOf entry lease = (entry.line ≡ lease.line) × (entry.call ≡ lease.call) × (entry.mem.value ≡ lease.mem)
+IsOf entry lease =
+    (entry.line ≡ lease.line) × (entry.call ≡ lease.call) × (entry.mem.value ≡ lease.mem)
 
 -- ---- what a call does on a memory's bytes
 
@@ -47,8 +50,8 @@ reply_from (Peek m off len) bytes = Bytes (take len (drop off bytes))
 reply_from (Hash m) bytes = Digest (sha256 bytes)
 reply_from call bytes = Done
 
--- The call is done on the memory that went out: its bytes are those that the call leaves, it is the same memory else,
--- and the reply is the call's.
+-- The call is done on the memory that went out: its bytes are those that the call leaves, it is the
+-- same memory else, and the reply is the call's.
 pub record IsDoneOn (call : Call) (before after : Mem) (reply : Reply) : Type 0 where
   pub bytes : mem_bytes after ≡ bytes_left call (mem_bytes before)
   pub rest : mem_rest after ≡ mem_rest before

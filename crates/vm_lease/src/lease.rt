@@ -7,8 +7,8 @@ use std::marker::Model;
 use vm_frame::Mem;
 use vm_local::{Call, Reply};
 
-/// The memory that a line touches, on its way out and back, with the line's number, its call and its reply. The call
-/// stays within the memory.
+/// The memory that a line touches, on its way out and back, with the line's number, its call and
+/// its reply. The call stays within the memory.
 ///
 /// Source: own.
 #[derive(Drop)]
@@ -48,8 +48,8 @@ impl Lease {
         }
     }
 
-    /// Does the call on the memory: reads, hashes, writes or fills it. The reply is the call's from then on. Doing it again
-    /// changes nothing more. It takes no memory.
+    /// Does the call on the memory: reads, hashes, writes or fills it. The reply is the call's from
+    /// then on. Doing it again changes nothing more. It takes no memory.
     pub fn apply(&mut self)
         ensures { IsApplied self.old self.new }
     {

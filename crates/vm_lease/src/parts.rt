@@ -11,7 +11,8 @@ use vm_frame::Mem;
 use vm_local::{Reply, SMALL_LIMIT, Small};
 use vm_mem::Store;
 
-/// How many bytes are hashed or filled at a time: a multiple of 256, after which the bytes of a seed begin again.
+/// How many bytes are hashed or filled at a time: a multiple of 256, after which the bytes of a
+/// seed begin again.
 const PART: usize = 4096;
 
 /// The reply that tells `len` bytes from `off` on; at most 256.
@@ -29,7 +30,8 @@ pub fn read(mem: &Mem, off: u32, len: u32) -> Reply
 /// Writes bytes from `off` on.
 pub fn write(mem: &mut Mem, off: u32, bytes: &[u8])
     requires { off + length bytes.now ≤ length (mem_bytes mem.old) }
-    ensures bytes { mem_bytes mem.new ≡ take off (mem_bytes mem.old) ++ (bytes.now ++ drop (off + length bytes.now) (mem_bytes mem.old)) }
+    ensures bytes { mem_bytes mem.new ≡ take off (mem_bytes mem.old) ++
+        (bytes.now ++ drop (off + length bytes.now) (mem_bytes mem.old)) }
     ensures rest { mem_rest mem.new ≡ mem_rest mem.old }
 {
     mem.copy_in(off, bytes);

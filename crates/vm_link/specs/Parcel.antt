@@ -1,10 +1,12 @@
--- What goes over the link: a table of descriptors, the pages that they name, and the memories that move with them.
+-- What goes over the link: a table of descriptors, the pages that they name, and the memories that
+-- move with them.
 use Rattle.std.specs.Prelude.{ℕ, ◌≤◌, List, length, map}
 use Rattle.vm_chain.specs.declared.desc.Desc.{Desc}
 use Rattle.vm_frame.specs.declared.mem.Held.{Held}
 use Rattle.vm_mem.specs.declared.page.Page.{Page}
 
--- Who posts it, its table and its pages, and the memories with the number of those that there is room for.
+-- Who posts it, its table and its pages, and the memories with the number of those that there is
+-- room for.
 pub record ParcelState : Type 0 where
   pub who : ℕ
   pub table : List Desc
@@ -18,4 +20,5 @@ homes_of parcel = map (λ page. page.number) parcel.pages
 
 -- it has one to four descriptors, and at most four pages
 abbrev pub IsPostable : ParcelState → Type 0
-IsPostable parcel = (1 ≤ length parcel.table) × (length parcel.table ≤ 4) × (length parcel.pages ≤ 4)
+IsPostable parcel =
+    (1 ≤ length parcel.table) × (length parcel.table ≤ 4) × (length parcel.pages ≤ 4)

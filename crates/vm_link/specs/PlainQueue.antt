@@ -4,8 +4,8 @@ use Rattle.vm_mem.specs.Lists.{occurrences}
 use Rattle.vm_link.specs.Parcel.{IsPostable}
 use Rattle.vm_link.specs.Queue.{Queue, used_count, heads_of}
 
--- The free heads and those of the chains are as many as the size, and no two alike; the chains fit the size, and each of
--- them has a descriptor.
+-- The free heads and those of the chains are as many as the size, and no two alike; the chains fit
+-- the size, and each of them has a descriptor.
 pub record IsSound (free_heads : List ℕ) (q : Queue) : Type 0 where
   pub small : q.size < 2 ^ 16
   pub fits : used_count q ≤ q.size

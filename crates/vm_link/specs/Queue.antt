@@ -1,4 +1,5 @@
--- The meaning of a link: two queues, each of them three lists. Source: VIRTIO 1.3, 2.7 "Split Virtqueues".
+-- The meaning of a link: two queues, each of them three lists. Source: VIRTIO 1.3, 2.7 "Split
+-- Virtqueues".
 use Rattle.std.specs.Prelude.{ℕ, ◌≡◌, ◌+◌, ◌-◌, Option, Some, None, List, [], ◌∷◌, ◌++◌, not, ◌==◌, length, map, filter, find, sum_by, Contains}
 use Rattle.std.specs.Option.{option_map_or}
 use Rattle.std.specs.Result.{result_err, result_unwrap_or}
@@ -13,8 +14,8 @@ use Rattle.vm_link.specs.declared.parcel.Taken.{Taken}
 use Rattle.vm_link.specs.declared.link.QueueId.{QueueId}
 use Rattle.vm_link.specs.declared.link.QueueId.TheVariants.{Command, Event}
 
--- How many descriptors the queue has, the parcels that are posted and not taken, the chains that are taken and not
--- finished, and those that are finished and not collected.
+-- How many descriptors the queue has, the parcels that are posted and not taken, the chains that
+-- are taken and not finished, and those that are finished and not collected.
 pub record Queue : Type 0 where
   pub size : ℕ
   pub waiting : List Parcel
@@ -40,7 +41,9 @@ empty_queue size = record { size = size; waiting = []; out = []; done = [] }
 
 -- how many descriptors the three lists have
 abbrev pub used_count : Queue → ℕ
-used_count q = sum_by (λ p. length p.table) q.waiting + sum_by (λ c. c.count) q.out + sum_by (λ d. d.count) q.done
+used_count q =
+    sum_by (λ p. length p.table) q.waiting + sum_by (λ c. c.count) q.out + sum_by
+    (λ d. d.count) q.done
 
 abbrev pub free_count : Queue → ℕ
 free_count q = q.size - used_count q
@@ -70,12 +73,18 @@ taken_as q taken = record q {
   out = q.out ++ record { head = taken.head; count = length taken.parcel.table } ∷ [];
 }
 
--- The first parcel that waits is taken, under a head that no other chain has, with the walk of its table.
-pub record TakesFirst (old : Queue) (before : WalkedChain) (taken : Taken) (new : Queue) (after : WalkedChain) : Type 0 where
+-- The first parcel that waits is taken, under a head that no other chain has, with the walk of its
+-- table.
+pub record TakesFirst (old : Queue) (before : WalkedChain) (taken : Taken) (new : Queue)
+    (after : WalkedChain) : Type 0 where
   pub first : old.waiting ≡ taken.parcel ∷ rest_of old.waiting
   pub fresh : ¬ Contains (heads_of old) taken.head
-  pub fault : taken.fault ≡ result_err (walk_of taken.parcel.table 0 before.limit (homes_of taken.parcel))
-  pub chain : after ≡ record before { descs = result_unwrap_or (walk_of taken.parcel.table 0 before.limit (homes_of taken.parcel)) [] }
+  pub fault : taken.fault ≡
+      result_err (walk_of taken.parcel.table 0 before.limit (homes_of taken.parcel))
+  pub chain : after ≡ record before {
+    descs = result_unwrap_or
+        (walk_of taken.parcel.table 0 before.limit (homes_of taken.parcel)) [];
+  }
   pub queue : new ≡ taken_as old taken
 
 -- Where no parcel waits, none is taken and nothing changes.

@@ -27,8 +27,9 @@ pub enum QueueId {
     Event,
 }
 
-/// The two queues between the driver and the device: in each, what waits, what the device has taken, and what it has
-/// finished. A call changes no other queue than the one that it names, and no queue's size. None takes memory.
+/// The two queues between the driver and the device: in each, what waits, what the device has
+/// taken, and what it has finished. A call changes no other queue than the one that it names, and
+/// no queue's size. None takes memory.
 ///
 /// Source: VIRTIO 1.3, 2.7 "Split Virtqueues", seen as whole lists.
 pub trait Link {
@@ -47,26 +48,33 @@ pub trait Link {
     fn uncollected(&self, q: QueueId) -> u16
         ensures { result ≡ length (queue_at q (queues self.now)).done };
 
-    /// The driver posts a parcel behind those that wait. It has one to four descriptors and at most four pages, and as
-    /// many descriptors are free.
+    /// The driver posts a parcel behind those that wait. It has one to four descriptors and at most
+    /// four pages, and as many descriptors are free.
     fn post(&mut self, q: QueueId, parcel: Parcel)
         requires postable { IsPostable parcel }
         requires room { length parcel.table ≤ free_count (queue_at q (queues self.old)) }
-        ensures { queues self.new ≡ with_queue q (posted (queue_at q (queues self.old)) parcel) (queues self.old) };
+        ensures { queues self.new ≡ with_queue q (posted (queue_at q (queues self.old)) parcel)
+            (queues self.old) };
 
-    /// The device takes the first parcel that waits, and walks its table from 0 on, over as many descriptors as `chain`
-    /// was made for and in the parcel's pages. `None` exactly where none waits.
+    /// The device takes the first parcel that waits, and walks its table from 0 on, over as many
+    /// descriptors as `chain` was made for and in the parcel's pages. `None` exactly where none
+    /// waits.
     fn take(&mut self, q: QueueId, chain: &mut Chain) -> Option<Taken>
-        ensures taken { Takes (queue_at q (queues self.old)) chain.old result (queue_at q (queues self.new)) chain.new }
-        ensures others { queues self.new ≡ with_queue q (queue_at q (queues self.new)) (queues self.old) };
+        ensures taken { Takes (queue_at q (queues self.old)) chain.old result
+            (queue_at q (queues self.new)) chain.new }
+        ensures others { queues self.new ≡ with_queue q (queue_at q (queues self.new))
+            (queues self.old) };
 
     /// The device gives back a chain that it took, behind those that are finished.
     fn finish(&mut self, q: QueueId, done: Finished)
         requires { Contains (out_heads (queue_at q (queues self.old))) done.head }
-        ensures { queues self.new ≡ with_queue q (finished (queue_at q (queues self.old)) done) (queues self.old) };
+        ensures { queues self.new ≡ with_queue q (finished (queue_at q (queues self.old)) done)
+            (queues self.old) };
 
-    /// The driver collects the first chain that is finished, and so frees its descriptors. `None` exactly where none is.
+    /// The driver collects the first chain that is finished, and so frees its descriptors. `None`
+    /// exactly where none is.
     fn collect(&mut self, q: QueueId) -> Option<Finished>
         ensures done { result ≡ first_finished (queue_at q (queues self.old)).done }
-        ensures queues { queues self.new ≡ with_queue q (collected (queue_at q (queues self.old))) (queues self.old) };
+        ensures queues { queues self.new ≡ with_queue q (collected (queue_at q (queues self.old)))
+            (queues self.old) };
 }

@@ -3,15 +3,16 @@ use vm_chain::{ChainFault, Desc};
 use vm_frame::Held;
 use vm_mem::Page;
 
-/// What the driver posts on a queue: a chain of descriptors, the pages that its bytes lie in, and the memories of buffers
-/// that move with it.
+/// What the driver posts on a queue: a chain of descriptors, the pages that its bytes lie in, and
+/// the memories of buffers that move with it.
 ///
 /// Source: VIRTIO 1.3, 2.7 "Split Virtqueues"; that pages and memories move with the chain is own.
 #[derive(Drop)]
 pub struct Parcel {
     /// Who posted it: the process, or the number of the event's chain.
     pub who: u16,
-    /// The descriptors, of which the first is the chain's head. `next` counts from the table's start.
+    /// The descriptors, of which the first is the chain's head. `next` counts from the table's
+    /// start.
     pub table: Vec<Desc>,
     /// The pages.
     pub pages: Vec<Page>,
@@ -25,7 +26,13 @@ impl Model for Parcel {
 
     ghost Value = { ParcelState };
 
-    ghost view = { λ p. record { who = p.who; table = p.table.items; pages = p.pages.items; held = p.held.items; room = vec_capacity p.held } };
+    ghost view = { λ p. record {
+      who = p.who;
+      table = p.table.items;
+      pages = p.pages.items;
+      held = p.held.items;
+      room = vec_capacity p.held;
+    } };
 }
 
 /// A parcel that the device took, and what the walk of its table found.

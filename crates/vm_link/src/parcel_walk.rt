@@ -10,19 +10,28 @@ use vm_mem::Page;
 /// As many pages as a parcel may have.
 const MAX_PAGES: usize = 4;
 
-/// Walks a parcel's table from 0 on, in its pages, over as many descriptors as `chain` was made for.
+/// Walks a parcel's table from 0 on, in its pages, over as many descriptors as `chain` was made
+/// for.
 pub fn walk_parcel(parcel: &Parcel, chain: &mut Chain) -> Option<ChainFault>
     requires { length parcel.now.pages ≤ 4 }
-    ensures fault { result ≡ result_err (walk_of parcel.now.table 0 chain.old.limit (homes_of parcel.now)) }
-    ensures chain { chain.new ≡ record chain.old { descs = result_unwrap_or (walk_of parcel.now.table 0 chain.old.limit (homes_of parcel.now)) [] } }
+    ensures fault { result ≡ result_err (walk_of parcel.now.table 0 chain.old.limit
+        (homes_of parcel.now)) }
+    ensures chain { chain.new ≡ record chain.old {
+      descs = result_unwrap_or
+          (walk_of parcel.now.table 0 chain.old.limit (homes_of parcel.now)) [];
+    } }
 {
     walk_table(parcel.table.as_slice(), parcel.pages.as_slice(), chain)
 }
 
 fn walk_table(table: &[Desc], pages: &[Page], chain: &mut Chain) -> Option<ChainFault>
     requires { length pages.now ≤ 4 }
-    ensures fault { result ≡ result_err (walk_of table.now 0 chain.old.limit (map (λ page. page.number) pages.now)) }
-    ensures chain { chain.new ≡ record chain.old { descs = result_unwrap_or (walk_of table.now 0 chain.old.limit (map (λ page. page.number) pages.now)) [] } }
+    ensures fault { result ≡ result_err (walk_of table.now 0 chain.old.limit
+        (map (λ page. page.number) pages.now)) }
+    ensures chain { chain.new ≡ record chain.old {
+      descs = result_unwrap_or
+          (walk_of table.now 0 chain.old.limit (map (λ page. page.number) pages.now)) [];
+    } }
 {
     let mut homes = [0; MAX_PAGES];
     list_homes(pages, &mut homes);

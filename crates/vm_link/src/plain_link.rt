@@ -31,7 +31,8 @@ impl PlainLink {
     /// # Errors
     /// `Memory` where the lists' memory can't be had.
     pub fn new(alloc: Global, command: u16, event: u16) -> Result<PlainLink, Memory>
-        ensures { IfOk result (λ l. l ≡ record { command = empty_queue command; event = empty_queue event }) }
+        ensures { IfOk result (λ l. l ≡
+            record { command = empty_queue command; event = empty_queue event }) }
     {
         let command = PlainQueue::new(alloc, command)?;
         let event = PlainQueue::new(alloc, event)?;

@@ -30,11 +30,23 @@ impl Model for PlainQueue {
 
     ghost Value = { Queue };
 
-    ghost view = { λ q. record { size = q.size; waiting = q.waiting.items; out = q.out.items; done = q.done.items } };
+    ghost view = { λ q. record {
+      size = q.size;
+      waiting = q.waiting.items;
+      out = q.out.items;
+      done = q.done.items;
+    } };
 
     // No call takes memory, since each list has room.
-    ghost invariant = { λ q. IsSound q.free_heads.items (record { size = q.size; waiting = q.waiting.items; out = q.out.items; done = q.done.items })
-        × IsRoomy q.size (vec_capacity q.free_heads) (deque_capacity q.waiting) (vec_capacity q.out) (deque_capacity q.done) };
+    ghost invariant = { λ q. IsSound q.free_heads.items
+        (record {
+          size = q.size;
+          waiting = q.waiting.items;
+          out = q.out.items;
+          done = q.done.items;
+        })
+        × IsRoomy q.size (vec_capacity q.free_heads) (deque_capacity q.waiting) (vec_capacity q.out)
+        (deque_capacity q.done) };
 }
 
 impl PlainQueue {

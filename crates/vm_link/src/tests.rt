@@ -79,7 +79,8 @@ fn a_taken_table_is_walked(rt: HostRuntime) -> Result<(), Fail> {
     let empty = desc(COMMAND_PAGE, 0, 0, 0);
     let nowhere = desc(0xffff_ffff_ffff_f000, 8, 0, 0);
     let indirect = desc(COMMAND_PAGE, 16, INDIRECT, 0);
-    // The two descriptors, the limit, the fault with its index, and how many descriptors were walked.
+    // The two descriptors, the limit, the fault with its index, and how many descriptors were
+    // walked.
     let rows: [(Desc, Desc, u16, Option<(ChainKind, u16)>, usize); 9] = [
         (command, reply, 64, None, 2),
         (command, reply, 2, None, 2),

@@ -1,5 +1,5 @@
--- The calls of a handle: for each its refusals in the order in which they are tried, and else its reply and the state
--- after it. What they do is this project's own, after the Linux V4L2 interface.
+-- The calls of a handle: for each its refusals in the order in which they are tried, and else its
+-- reply and the state after it. What they do is this project's own, after the Linux V4L2 interface.
 use Rattle.std.specs.Prelude.{ℕ, Bool, true, false, not, List, [], ◌∷◌, ◌++◌, map, length, take, drop, replicate, ◌+◌, ◌&&◌, ◌||◌, ◌==◌, nat_lt, slice_index_or, Option, Some, None, is_some}
 use Rattle.std.specs.Option.{unwrap_or}
 use Rattle.sha2.specs.Sha256.{sha256}
@@ -37,7 +37,14 @@ pub record Row : Type 0 where
   pub next : LocalState
 
 abbrev pub row : List (Bool × Errno) → Reply → LocalState → Row
-row refusals reply next = record { refusals = refusals; may_lack_memory = false; waits = false; reply = reply; next = next }
+row refusals reply next =
+    record {
+      refusals = refusals;
+      may_lack_memory = false;
+      waits = false;
+      reply = reply;
+      next = next;
+    }
 
 -- a row whose last refusal is ENOMEM, where the test says so
 abbrev pub row_with_memory : Bool → List (Bool × Errno) → Reply → LocalState → Row
@@ -89,7 +96,8 @@ unfoldable pub gfmt_row : LocalState → ℕ → Row
 gfmt_row s t = row (not_open s ∷ no_type s.model t ∷ []) (format_reply (queue_of s t).format) s
 
 unfoldable pub tryfmt_row : LocalState → ℕ → FourCc → ℕ → ℕ → Row
-tryfmt_row s t f w h = row (not_open s ∷ no_type s.model t ∷ []) (format_reply (adjusted_for s t f w h)) s
+tryfmt_row s t f w h =
+    row (not_open s ∷ no_type s.model t ∷ []) (format_reply (adjusted_for s t f w h)) s
 
 unfoldable pub sfmt_row : LocalState → ℕ → FourCc → ℕ → ℕ → Row
 sfmt_row s t f w h =
@@ -105,7 +113,8 @@ ginput_row s = row (not_open s ∷ no_inputs s.model ∷ []) (InputIs s.input) s
 
 unfoldable pub sinput_row : LocalState → ℕ → Row
 sinput_row s i =
-    row (not_open s ∷ no_inputs s.model ∷ no_input i ∷ (is_streaming s, Ebusy) ∷ []) (InputIs i) (record s { input = i })
+    row (not_open s ∷ no_inputs s.model ∷ no_input i ∷ (is_streaming s, Ebusy) ∷ []) (InputIs i)
+    (record s { input = i })
 
 -- ---- buffers
 
@@ -113,7 +122,8 @@ unfoldable pub reqbufs_row : LocalState → ℕ → ℕ → ℕ → Row
 reqbufs_row s t m n =
     row_with_memory
     (nat_lt 0 n)
-    (not_open s ∷ no_type s.model t ∷ (not (m == 1 || m == 2), Einval) ∷ (nat_lt 0 n && (queue_of s t).streaming, Ebusy) ∷ [])
+    (not_open s ∷ no_type s.model t ∷ (not (m == 1 || m == 2), Einval) ∷
+    (nat_lt 0 n && (queue_of s t).streaming, Ebusy) ∷ [])
     (Count (granted n)) (with_buffers s t (memory_kind m) (granted n))
 
 unfoldable pub querybuf_row : LocalState → ℕ → ℕ → Row
@@ -181,7 +191,8 @@ dqbuf_row s t =
     (not q.streaming, Einval) ∷
     (not s.blocking && is_empty q.done, Eagain) ∷
     (s.blocking && is_empty q.done && not (is_owed s t) && not (can_finish s), Edeadlk) ∷ [])
-    (Frame (first_done q) b.used b.sequence b.timestamp (flags_of s b)) (with_queue s t (taken_back q))) { waits = is_empty q.done }
+    (Frame (first_done q) b.used b.sequence b.timestamp (flags_of s b))
+    (with_queue s t (taken_back q))) { waits = is_empty q.done }
 
 -- ---- mappings and bytes
 
@@ -190,9 +201,14 @@ mmap_row s addr m t i ro =
     let b : Buffer = buffer_of (queue_of s t) i in
     row_with_memory
     true
-    (not_open s ∷ no_type s.model t ∷ no_index s t i ∷ (is_user_ptr (queue_of s t).memory, Einval) ∷ [])
+    (not_open s ∷ no_type s.model t ∷ no_index s t i ∷ (is_user_ptr (queue_of s t).memory, Einval) ∷
+    [])
     (Mapped addr b.length)
-    (with_bound s (record { name = m; memory = unwrap_or b.memory 0; kind = Mapping addr b.length (not ro) }))
+    (with_bound s (record {
+      name = m;
+      memory = unwrap_or b.memory 0;
+      kind = Mapping addr b.length (not ro);
+    }))
 
 unfoldable pub munmap_row : LocalState → List ℕ → Row
 munmap_row s m = row ((not (is_mapping (named s m)), Einval) ∷ []) Done (unbound s m)
@@ -228,11 +244,13 @@ fill_row s m seed =
     (not_bound s m ∷ (not (is_writable (named s m)), Eacces) ∷ (is_in_use s memory, Ebusy) ∷ [])
     Done (with_bytes s memory (seeded seed (length (bytes_of s memory))))
 
--- ---- events: FRAME_SYNC is 4, and 0 stands for all; Source: Linux V4L2, struct v4l2_event_subscription
+-- ---- events: FRAME_SYNC is 4, and 0 stands for all; Source: Linux V4L2, struct
+-- v4l2_event_subscription
 
 unfoldable pub subscribe_row : LocalState → ℕ → Row
 subscribe_row s e =
-    row (not_open s ∷ (not (has_events s.model) || not (e == 4), Einval) ∷ []) Done (record s { subscribed = true })
+    row (not_open s ∷ (not (has_events s.model) || not (e == 4), Einval) ∷ []) Done
+    (record s { subscribed = true })
 
 unfoldable pub unsubscribe_row : LocalState → ℕ → Row
 unsubscribe_row s e =

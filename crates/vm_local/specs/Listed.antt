@@ -37,16 +37,17 @@ times_owed owed t i = count_by (λ o. o.queue == t && is_index o.item i) owed
 abbrev pub once : Bool → ℕ
 once so = if so then 1 else 0
 
--- The queue's queued list has the i-th buffer once where that buffer is Queued, and else never. The owed list, which
--- has it so often, has it once where it is Owed, and else never; and the done list once where it is Done.
+-- The queue's queued list has the i-th buffer once where that buffer is Queued, and else never. The
+-- owed list, which has it so often, has it once where it is Owed, and else never; and the done list
+-- once where it is Done.
 abbrev pub IsInPlace : QueueState → ℕ → ℕ → Type 0
 IsInPlace q owed i =
     let b : Buffer = buffer_of q i in
     (times q.queued i ≡ once (is_queued b.state)) × (owed ≡ once (is_with_device b.state)) ×
     (times q.done i ≡ once (is_done b.state))
 
--- The lists have the buffers of all queues so. An index behind the last buffer, or of a type that the model doesn't
--- have, stands for no buffer, which is Idle: no list has it.
+-- The lists have the buffers of all queues so. An index behind the last buffer, or of a type that
+-- the model doesn't have, stands for no buffer, which is Idle: no list has it.
 abbrev pub AreListed : LocalState → Type 0
 AreListed s = (t i : ℕ) → IsInPlace (queue_of s t) (times_owed s.owed t i) i
 
@@ -62,5 +63,6 @@ IsOwedThere s t (Sync frame) = ⊤
 abbrev pub AreThere : LocalState → Type 0
 AreThere s =
     ((t : ℕ) →
-    All (IsThere Queued (queue_of s t)) (queue_of s t).queued × All (IsThere Done (queue_of s t)) (queue_of s t).done) ×
+    All (IsThere Queued (queue_of s t)) (queue_of s t).queued ×
+    All (IsThere Done (queue_of s t)) (queue_of s t).done) ×
     All (λ o. IsOwedThere s o.queue o.item) s.owed

@@ -17,7 +17,8 @@ use Rattle.vm_local.specs.Steps.{finished, marked_bad, given}
 
 -- ---- a call
 
--- the state after a call that is refused, or that no refusal stops: a want of memory changes nothing
+-- the state after a call that is refused, or that no refusal stops: a want of memory changes
+-- nothing
 abbrev pub answered : Option Errno → Row → LocalState → Reply → Option LocalState
 answered (Some e) row s reply = if same_reply (Refused e) reply then Some s else None
 answered None row s reply =
@@ -27,10 +28,12 @@ answered None row s reply =
 abbrev pub row_for : LocalState → ℕ → Call → Reply → Row
 row_for s line call reply = row_of s line (address_in reply) call
 
--- the state after a call of this script's line with this reply; none where the call can't have this reply
+-- the state after a call of this script's line with this reply; none where the call can't have this
+-- reply
 unfoldable pub called : LocalState → ℕ → Call → Reply → Option LocalState
 called s line call reply =
-    answered (first_refusal (row_for s line call reply).refusals) (row_for s line call reply) s reply
+    answered (first_refusal (row_for s line call reply).refusals)
+    (row_for s line call reply) s reply
 
 -- the call has this reply, and leads to this state
 abbrev pub IsCall : LocalState → ℕ → Call → Reply → LocalState → Type 0
@@ -56,7 +59,8 @@ replay m log = replay_from (opening m) log
 abbrev pub IsLegal : Model → List Entry → Type 0
 IsLegal m log = IsSome (replay m log)
 
--- what a step leaves: the next state, and that it was done; or else all as it was, and that it wasn't
+-- what a step leaves: the next state, and that it was done; or else all as it was, and that it
+-- wasn't
 abbrev pub Stepped : Option LocalState → LocalState → LocalState → Bool → Type 0
 Stepped None old new done = (done ≡ false) × (new ≡ old)
 Stepped (Some next) old new done = (done ≡ true) × (new ≡ next)

@@ -66,8 +66,8 @@ is_just (Some m) n = m == n
 abbrev pub some_buffer : (Buffer → Bool) → LocalState → Bool
 some_buffer test s = list_any (λ q. list_any test q.buffers) s.queues
 
--- the memory's buffer is Queued or Owed. A memory that has no buffer counts as Idle: one whose buffer was freed, and
--- user memory outside the time from a qbuf until that buffer is Idle again
+-- the memory's buffer is Queued or Owed. A memory that has no buffer counts as Idle: one whose
+-- buffer was freed, and user memory outside the time from a qbuf until that buffer is Idle again
 abbrev pub is_lent : LocalState → ℕ → Bool
 is_lent s m = some_buffer (λ b. is_just b.memory m && is_away b.state) s
 

@@ -7,4 +7,5 @@ use Rattle.vm_local.specs.declared.reply.Reply.TheVariants.{Done}
 
 -- no entry of the log is an open that was done
 abbrev pub NeverOpens : List Entry → Type 0
-NeverOpens log = All (λ e. (line : ℕ) (nonblock : Bool) → e ≢ Called line (OpenHandle nonblock) Done) log
+NeverOpens log =
+    All (λ e. (line : ℕ) (nonblock : Bool) → e ≢ Called line (OpenHandle nonblock) Done) log

@@ -42,7 +42,8 @@ abbrev pub made_idle : Buffer → Buffer
 made_idle b = record b { state = Idle }
 
 abbrev pub stopped_queue : QueueState → QueueState
-stopped_queue q = record q { streaming = false; buffers = map made_idle q.buffers; queued = []; done = [] }
+stopped_queue q =
+    record q { streaming = false; buffers = map made_idle q.buffers; queued = []; done = [] }
 
 -- what is owed of other queues
 abbrev pub owed_by_others : LocalState → ℕ → List Owed
@@ -88,7 +89,11 @@ with_buffers s t kind n =
       memory = kind;
       buffers = fresh_buffers kind size (length s.memories) n;
     } in
-    record (with_queue s t q) { owed = owed_by_others s t; memories = s.memories ++ fresh_memories kind size n }
+    record (with_queue s t q) {
+      owed = owed_by_others s t;
+      memories = s.memories ++
+          fresh_memories kind size n;
+    }
 
 -- ---- queueing
 
@@ -97,7 +102,8 @@ abbrev pub brought : LocalState → Option (List ℕ) → Option ℕ
 brought s None = None
 brought s (Some u) = Some (memory_of (named s u))
 
--- the length that a buffer has from its qbuf on: that of the user memory that the qbuf brings, else as before
+-- the length that a buffer has from its qbuf on: that of the user memory that the qbuf brings, else
+-- as before
 abbrev pub length_from : LocalState → Option ℕ → Buffer → ℕ
 length_from s None b = b.length
 length_from s (Some m) b = length (bytes_of s m)
@@ -106,8 +112,8 @@ abbrev pub memory_from : Option ℕ → Buffer → Option ℕ
 memory_from None b = b.memory
 memory_from (Some m) b = Some m
 
--- the buffer as its qbuf leaves it, without the mark of a failed frame. A source's buffer takes the words `used` and
--- `ts`, where a `used` of 0 means the buffer's length
+-- the buffer as its qbuf leaves it, without the mark of a failed frame. A source's buffer takes the
+-- words `used` and `ts`, where a `used` of 0 means the buffer's length
 unfoldable pub queued_buffer : LocalState → ℕ → Option ℕ → ℕ → ℕ → Buffer → Buffer
 queued_buffer s t memory used ts b =
     let len : ℕ = length_from s memory b in
@@ -123,12 +129,17 @@ queued_buffer s t memory used ts b =
 abbrev pub with_queued : LocalState → ℕ → ℕ → Option ℕ → ℕ → ℕ → LocalState
 with_queued s t i memory used ts =
     let q : QueueState = queue_of s t in
-    with_queue s t (record (with_buffer q i (queued_buffer s t memory used ts (buffer_of q i))) { queued = q.queued ++ i ∷ [] })
+    with_queue s t (record
+    (with_buffer q i (queued_buffer s t memory used ts (buffer_of q i))) {
+      queued = q.queued ++
+          i ∷ [];
+    })
 
 -- ---- streaming
 
 abbrev pub started : QueueState → QueueState
-started q = record q { streaming = true; next_sequence = if q.streaming then q.next_sequence else 0 }
+started q =
+    record q { streaming = true; next_sequence = if q.streaming then q.next_sequence else 0 }
 
 -- ---- taking a done buffer
 
@@ -137,7 +148,9 @@ abbrev pub first_done : QueueState → ℕ
 first_done q = slice_index q.done 0
 
 abbrev pub taken_back : QueueState → QueueState
-taken_back q = record (with_buffer q (first_done q) (made_idle (buffer_of q (first_done q)))) { done = drop 1 q.done }
+taken_back q =
+    record (with_buffer q (first_done q)
+    (made_idle (buffer_of q (first_done q)))) { done = drop 1 q.done }
 
 -- an entry of this queue is owed
 abbrev pub is_owed : LocalState → ℕ → Bool
@@ -152,8 +165,10 @@ can_finish s = list_all (λ q. q.streaming && not (is_empty q.queued)) s.queues
 abbrev pub flag : ℕ → Bool → ℕ
 flag bit on = if on then bit else 0
 
--- MAPPED 1, QUEUED 2, DONE 4, ERROR 0x40 and the model's timestamp flag; Source: Linux V4L2, "Buffer Flags"
+-- MAPPED 1, QUEUED 2, DONE 4, ERROR 0x40 and the model's timestamp flag; Source: Linux V4L2,
+-- "Buffer Flags"
 unfoldable pub flags_of : LocalState → Buffer → ℕ
 flags_of s b =
-    flag 1 (is_mapped s b.memory) + flag 2 (is_away b.state) + flag 4 (is_done b.state) + flag 64 b.is_bad +
+    flag 1 (is_mapped s b.memory) + flag 2 (is_away b.state) + flag 4
+    (is_done b.state) + flag 64 b.is_bad +
     timestamp_flag s.model

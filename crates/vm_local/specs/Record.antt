@@ -24,8 +24,8 @@ unwritten n = replicate n 0
 abbrev pub zeros : List ℕ → List ℕ
 zeros bytes = unwritten (length bytes)
 
--- The state with zeros in the place of the bytes of its memories. A record is such a state, so that what is defined of
--- states is defined of records.
+-- The state with zeros in the place of the bytes of its memories. A record is such a state, so that
+-- what is defined of states is defined of records.
 abbrev pub without_bytes : LocalState → LocalState
 without_bytes s = record s { memories = map zeros s.memories }
 
@@ -60,7 +60,8 @@ with_call r line addr call = if writes_bytes call then r else (row_of r line add
 
 -- the record after an entry that is legal from the state
 abbrev pub moved : LocalState → Entry → LocalState
-moved r (Called line call reply) = if is_refusal reply then r else with_call r line (address_in reply) call
+moved r (Called line call reply) =
+    if is_refusal reply then r else with_call r line (address_in reply) call
 moved r Finish = without_bytes (unwrap_or (finished r) r)
 moved r Bad = unwrap_or (marked_bad r) r
 moved r Give = unwrap_or (given r) r

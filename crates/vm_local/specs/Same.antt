@@ -15,7 +15,8 @@ same_reply Done Done = true
 same_reply (Refused e) (Refused e') = errno_number e == errno_number e'
 same_reply (Caps all device) (Caps all' device') = (all == all') && (device == device')
 same_reply (Code f) (Code f') = f.0 == f'.0
-same_reply (Format f line size) (Format f' line' size') = same_format f f' && ((line == line') && (size == size'))
+same_reply (Format f line size) (Format f' line' size') =
+    same_format f f' && ((line == line') && (size == size'))
 same_reply (InputName i) (InputName i') = i == i'
 same_reply (InputIs i) (InputIs i') = i == i'
 same_reply (Count n) (Count n') = n == n'

@@ -9,7 +9,8 @@ SameSize q r = (q.format.width ≡ r.format.width) × (q.format.height ≡ r.for
 
 abbrev pub SizesAgree : List QueueState → Type 0
 SizesAgree qs =
-    (i j : ℕ) → i < length qs → j < length qs → SameSize (slice_index_or qs i opening_queue) (slice_index_or qs j opening_queue)
+    (i j : ℕ) → i < length qs → j < length qs →
+    SameSize (slice_index_or qs i opening_queue) (slice_index_or qs j opening_queue)
 
 -- a queue whose pictures have the size of a format
 abbrev pub resized : Fmt → QueueState → QueueState

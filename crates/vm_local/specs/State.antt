@@ -60,7 +60,12 @@ opening_queue = record {
 
 -- what the rules of models and formats ask of a queue
 abbrev pub queue_kind : QueueKind QueueState
-queue_kind = record { opening = opening_queue; format = λ q. q.format; reformatted = λ q f. record q { format = f } }
+queue_kind =
+    record {
+      opening = opening_queue;
+      format = λ q. q.format;
+      reformatted = λ q f. record q { format = f };
+    }
 
 -- the state before the first entry of a log: closed, with nothing bound
 abbrev pub opening : Model → LocalState
@@ -90,7 +95,16 @@ with_queue s t q = record s { queues = with_queue_at s.model s.queues t q }
 -- ---- a buffer of a queue
 
 abbrev pub no_buffer : Buffer
-no_buffer = record { state = Idle; length = 0; used = 0; sequence = 0; timestamp = 0; is_bad = false; memory = None }
+no_buffer =
+    record {
+      state = Idle;
+      length = 0;
+      used = 0;
+      sequence = 0;
+      timestamp = 0;
+      is_bad = false;
+      memory = None;
+    }
 
 abbrev pub buffer_of : QueueState → ℕ → Buffer
 buffer_of q i = slice_index_or q.buffers i no_buffer

@@ -34,17 +34,19 @@ number_of b = unwrap_or b.memory 0
 abbrev pub target : LocalState → QueueState
 target s = queue_of s (picture_queue s.model)
 
--- the picture of the next frame: that of the source, converted, or where there is no source the input's pattern
+-- the picture of the next frame: that of the source, converted, or where there is no source the
+-- input's pattern
 abbrev pub picture_from : Option ℕ → LocalState → List ℕ
 picture_from None s = pattern_picture s.input (target s).next_sequence (target s).format
 picture_from (Some t) s =
-    converted_picture (queue_of s t).format (bytes_of s (number_of (head_buffer (queue_of s t)))) (target s).format
+    converted_picture (queue_of s t).format (bytes_of s (number_of (head_buffer (queue_of s t))))
+    (target s).format
 
 abbrev pub next_picture : LocalState → List ℕ
 next_picture s = picture_from (source_queue s.model) s
 
--- the timestamp of the next frame in microseconds: that of the source's buffer, or where there is no source 40,000
--- for each frame before it
+-- the timestamp of the next frame in microseconds: that of the source's buffer, or where there is
+-- no source 40,000 for each frame before it
 abbrev pub timestamp_from : Option ℕ → LocalState → ℕ
 timestamp_from None s = (target s).next_sequence * 40000
 timestamp_from (Some t) s = (head_buffer (queue_of s t)).timestamp
@@ -52,11 +54,17 @@ timestamp_from (Some t) s = (head_buffer (queue_of s t)).timestamp
 abbrev pub next_timestamp : LocalState → ℕ
 next_timestamp s = timestamp_from (source_queue s.model) s
 
--- a buffer that a frame took: it has the frame's number in its queue and the frame's timestamp, the mark of a failed
--- frame where this one failed, and is owed
+-- a buffer that a frame took: it has the frame's number in its queue and the frame's timestamp, the
+-- mark of a failed frame where this one failed, and is owed
 abbrev pub taken_buffer : Bool → ℕ → ℕ → Buffer → Buffer
 taken_buffer good sequence timestamp b =
-    record b { state = AsOwed; sequence = sequence; timestamp = timestamp; is_bad = b.is_bad || not good }
+    record b {
+      state = AsOwed;
+      sequence = sequence;
+      timestamp = timestamp;
+      is_bad = b.is_bad ||
+          not good;
+    }
 
 -- a queue whose first queued buffer a frame took
 abbrev pub taken : Bool → ℕ → QueueState → QueueState
@@ -71,7 +79,9 @@ with_used q i n = with_buffer q i (record (buffer_of q i) { used = n })
 -- the event that tells of a frame, where the model has events
 abbrev pub sync_of : LocalState → List Owed
 sync_of s =
-    if has_events s.model then (record { queue = picture_queue s.model; item = Sync (target s).next_sequence }) ∷ [] else []
+    if has_events s.model
+    then (record { queue = picture_queue s.model; item = Sync (target s).next_sequence }) ∷ []
+    else []
 
 -- the buffers that a frame takes, one of each queue
 abbrev pub buffer_taken : LocalState → ℕ → Owed
@@ -88,7 +98,8 @@ heads_taken s good entries =
 -- the bytes in use of the buffer that the frame took for its picture
 abbrev pub with_target_used : LocalState → ℕ → LocalState → LocalState
 with_target_used s n next =
-    with_queue next (picture_queue s.model) (with_used (queue_of next (picture_queue s.model)) (head (target s)) n)
+    with_queue next (picture_queue s.model)
+    (with_used (queue_of next (picture_queue s.model)) (head (target s)) n)
 
 -- the picture in the first bytes of that buffer, and the bytes behind it as they were
 abbrev pub with_picture : LocalState → LocalState → LocalState
@@ -100,18 +111,22 @@ with_picture s next =
 unfoldable pub finished : LocalState → Option LocalState
 finished s =
     if can_finish s then
-    Some (with_picture s (with_target_used s (picture_size (target s).format) (heads_taken s true (sync_of s ++ buffers_taken s))))
+    Some (with_picture s (with_target_used s (picture_size (target s).format)
+    (heads_taken s true (sync_of s ++ buffers_taken s))))
     else None
 
--- a frame fails: the contents stay, no byte is in use, and there is no event; none where no frame can be finished
+-- a frame fails: the contents stay, no byte is in use, and there is no event; none where no frame
+-- can be finished
 unfoldable pub marked_bad : LocalState → Option LocalState
 marked_bad s =
-    if can_finish s then Some (with_target_used s 0 (heads_taken s false (buffers_taken s))) else None
+    if can_finish s then Some (with_target_used s 0 (heads_taken s false (buffers_taken s)))
+    else None
 
 -- ---- handing over
 
 abbrev pub with_done : QueueState → ℕ → QueueState
-with_done q i = record (with_buffer q i (record (buffer_of q i) { state = Done })) { done = q.done ++ i ∷ [] }
+with_done q i =
+    record (with_buffer q i (record (buffer_of q i) { state = Done })) { done = q.done ++ i ∷ [] }
 
 abbrev pub buffer_given : LocalState → ℕ → ℕ → LocalState
 buffer_given s t i = with_queue s t (with_done (queue_of s t) i)
@@ -119,7 +134,10 @@ buffer_given s t i = with_queue s t (with_done (queue_of s t) i)
 abbrev pub event_given : LocalState → ℕ → LocalState
 event_given s frame =
     if s.subscribed then
-    record s { events = s.events ++ (record { frame = frame; number = s.next_event }) ∷ []; next_event = counted s.next_event }
+    record s {
+      events = s.events ++ (record { frame = frame; number = s.next_event }) ∷ [];
+      next_event = counted s.next_event;
+    }
     else s
 
 abbrev pub item_given : LocalState → ℕ → OwedItem → LocalState
@@ -130,7 +148,7 @@ abbrev pub given_from : LocalState → List Owed → Option LocalState
 given_from s [] = None
 given_from s (o ∷ rest) = Some (item_given (record s { owed = rest }) o.queue o.item)
 
--- the first owed entry is handed over: a buffer to its queue's done list, an event to the event list, or away where
--- events aren't wanted; none where nothing is owed
+-- the first owed entry is handed over: a buffer to its queue's done list, an event to the event
+-- list, or away where events aren't wanted; none where nothing is owed
 unfoldable pub given : LocalState → Option LocalState
 given s = given_from s s.owed

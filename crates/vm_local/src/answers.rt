@@ -19,10 +19,11 @@ use v4l_rules::FIRST_FORMAT;
 use vm_mem::PAGE_SIZE;
 
 impl Record {
-    /// The reply of a call that no refusal stops, and that doesn't tell bytes, from each state that this is the record of. A
-    /// successful `mmap` answers this address.
+    /// The reply of a call that no refusal stops, and that doesn't tell bytes, from each state that
+    /// this is the record of. A successful `mmap` answers this address.
     pub fn reply(&self, call: &Call, addr: u64) -> Reply
-        ensures { (s : LocalState) (line : ℕ) → self.now.local ≡ without_bytes s → tells_bytes call.now ≡ false → result ≡ (row_of s line addr call.now).reply }
+        ensures { (s : LocalState) (line : ℕ) → self.now.local ≡ without_bytes s →
+            tells_bytes call.now ≡ false → result ≡ (row_of s line addr call.now).reply }
     {
         self.row_reply(call, addr)
     }
@@ -30,7 +31,8 @@ impl Record {
     /// The same from the record itself.
     #[tactic(auto, unfolding(crate::specs::Calls::enuminput_row, crate::specs::Calls::ginput_row, crate::specs::Calls::sinput_row, crate::specs::Calls::reqbufs_row, crate::specs::Calls::ualloc_row, crate::specs::Calls::qbuf_row, crate::specs::Calls::streamon_row, crate::specs::Calls::streamoff_row, crate::specs::Calls::munmap_row, crate::specs::Calls::write_row, crate::specs::Calls::fill_row, crate::specs::Calls::subscribe_row, crate::specs::Calls::unsubscribe_row))]
     pub(crate) fn row_reply(&self, call: &Call, addr: u64) -> Reply
-        ensures { (line : ℕ) → tells_bytes call.now ≡ false → result ≡ (row_of self.now.local line addr call.now).reply }
+        ensures { (line : ℕ) → tells_bytes call.now ≡ false →
+            result ≡ (row_of self.now.local line addr call.now).reply }
     {
         match call {
             Call::QueryCap => self.capabilities(),
@@ -125,7 +127,8 @@ impl Record {
 
     #[tactic(auto, unfolding(crate::specs::Calls::mmap_row))]
     fn mapping(&self, addr: u64, t: u32, i: u32) -> Reply
-        ensures { (m : List ℕ) (ro : Bool) → result ≡ (mmap_row self.now.local addr m t i ro).reply }
+        ensures { (m : List ℕ) (ro : Bool) → result ≡
+            (mmap_row self.now.local addr m t i ro).reply }
     {
         Reply::Mapped {
             addr,

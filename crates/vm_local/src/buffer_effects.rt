@@ -41,7 +41,10 @@ impl Record {
     #[tactic(auto, unfolding(crate::specs::Calls::qbuf_row))]
     pub(crate) fn queue_buffer(&mut self, t: u32, i: u32, user: &Option<Name>, used: u32, ts: u32)
         requires { first_refusal (qbuf_row self.old.local t i user.now used ts).refusals ≡ None }
-        ensures { self.new ≡ record self.old { local = (qbuf_row self.old.local t i user.now used ts).next } }
+        ensures { self.new ≡ record self.old {
+          local =
+              (qbuf_row self.old.local t i user.now used ts).next;
+        } }
     {
         let memory = self.brought(user);
         let buffer = self.queued_buffer(t, memory, used, ts, &self.buffer_of(t, i));

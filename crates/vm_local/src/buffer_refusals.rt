@@ -59,7 +59,8 @@ impl Record {
     /// The refusals of `ualloc`.
     #[tactic(auto, unfolding(crate::specs::Calls::ualloc_row))]
     pub(crate) fn ualloc_refusal(&self, len: u32, off: u32) -> Option<Errno>
-        ensures { (line : ℕ) (u : List ℕ) → result ≡ first_refusal (ualloc_row self.now.local line u len off).refusals }
+        ensures { (line : ℕ) (u : List ℕ) → result ≡
+            first_refusal (ualloc_row self.now.local line u len off).refusals }
     {
         if !self.opened {
             return Some(Errno::Ebadf);
@@ -116,7 +117,8 @@ impl Record {
     /// The refusals of `mmap`.
     #[tactic(auto, unfolding(crate::specs::Calls::mmap_row))]
     pub(crate) fn mmap_refusal(&self, t: u32, i: u32) -> Option<Errno>
-        ensures { (addr : ℕ) (m : List ℕ) (ro : Bool) → result ≡ first_refusal (mmap_row self.now.local addr m t i ro).refusals }
+        ensures { (addr : ℕ) (m : List ℕ) (ro : Bool) →
+            result ≡ first_refusal (mmap_row self.now.local addr m t i ro).refusals }
     {
         if !self.opened {
             return Some(Errno::Ebadf);
@@ -139,7 +141,8 @@ impl Record {
         user: &Option<Name>,
         used: u32,
     ) -> Option<Errno>
-        ensures { (ts : ℕ) → result ≡ first_refusal (qbuf_row self.now.local t i user.now used ts).refusals }
+        ensures { (ts : ℕ) → result ≡ first_refusal
+            (qbuf_row self.now.local t i user.now used ts).refusals }
     {
         if !self.opened {
             return Some(Errno::Ebadf);

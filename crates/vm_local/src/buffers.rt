@@ -80,7 +80,8 @@ pub fn lends(buffers: &[Buffer], memory: u64) -> bool
 
 /// Whether one of the buffers has this memory and isn't Idle.
 pub fn uses(buffers: &[Buffer], memory: u64) -> bool
-    ensures { result ≡ list_any (λ b. is_just b.memory memory && not (is_idle b.state)) buffers.now }
+    ensures { result ≡ list_any (λ b. is_just b.memory memory && not
+        (is_idle b.state)) buffers.now }
 {
     buffers.iter().any(|buffer| is_just(buffer.memory, memory) && !buffer.state.is_idle())
 }

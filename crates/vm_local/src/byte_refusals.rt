@@ -78,7 +78,8 @@ impl Record {
     /// The refusals of `fill`.
     #[tactic(auto, unfolding(crate::specs::Calls::fill_row))]
     pub(crate) fn fill_refusal(&self, m: &Name) -> Option<Errno>
-        ensures { (seed : ℕ) → result ≡ first_refusal (fill_row self.now.local m.now seed).refusals }
+        ensures { (seed : ℕ) → result ≡ first_refusal
+            (fill_row self.now.local m.now seed).refusals }
     {
         if self.named(m).is_none() {
             return Some(Errno::Efault);

@@ -54,7 +54,8 @@ impl Bytes {
     /// Sets the bytes from `at` on to these.
     pub fn write(&mut self, at: u32, bytes: &[u8])
         requires { at + length bytes.now ≤ length self.old }
-        ensures { self.new ≡ take at self.old ++ (bytes.now ++ drop (at + length bytes.now) self.old) }
+        ensures { self.new ≡ take at self.old ++
+            (bytes.now ++ drop (at + length bytes.now) self.old) }
     {
         let start = at as usize;
         self.kept[start..start + bytes.len()].copy_from_slice(bytes);
@@ -78,7 +79,8 @@ impl Bytes {
         Ok(copy)
     }
 
-    /// Puts these bytes in the place of as many at the front. Where they are more than all, they stand alone.
+    /// Puts these bytes in the place of as many at the front. Where they are more than all, they
+    /// stand alone.
     pub fn set_front(&mut self, front: Vec<u8>)
         requires { vec_len front ≤ 925696 }
         ensures { self.new ≡ front.items ++ drop (length front.items) self.old }

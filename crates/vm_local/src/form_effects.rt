@@ -58,7 +58,10 @@ impl Record {
     /// Wants events.
     #[tactic(auto, unfolding(crate::specs::Calls::subscribe_row))]
     pub(crate) fn subscribe(&mut self)
-        ensures { (e : ℕ) → self.new ≡ record self.old { local = (subscribe_row self.old.local e).next } }
+        ensures { (e : ℕ) → self.new ≡ record self.old {
+          local =
+              (subscribe_row self.old.local e).next;
+        } }
     {
         self.subscribed = true;
     }
@@ -66,7 +69,10 @@ impl Record {
     /// Wants no events.
     #[tactic(auto, unfolding(crate::specs::Calls::unsubscribe_row))]
     pub(crate) fn unsubscribe(&mut self)
-        ensures { (e : ℕ) → self.new ≡ record self.old { local = (unsubscribe_row self.old.local e).next } }
+        ensures { (e : ℕ) → self.new ≡ record self.old {
+          local =
+              (unsubscribe_row self.old.local e).next;
+        } }
     {
         self.subscribed = false;
     }

@@ -26,7 +26,8 @@ impl Record {
     #[tactic(auto, unfolding(crate::specs::Calls::gfmt_row, crate::specs::Calls::tryfmt_row, crate::specs::Calls::streamoff_row))]
     pub(crate) fn type_refusal(&self, t: u32) -> Option<Errno>
         ensures gfmt { result ≡ first_refusal (gfmt_row self.now.local t).refusals }
-        ensures tryfmt { (f : FourCc) (w h : ℕ) → result ≡ first_refusal (tryfmt_row self.now.local t f w h).refusals }
+        ensures tryfmt { (f : FourCc) (w h : ℕ) →
+            result ≡ first_refusal (tryfmt_row self.now.local t f w h).refusals }
         ensures streamoff { result ≡ first_refusal (streamoff_row self.now.local t).refusals }
     {
         if !self.opened {
@@ -55,7 +56,8 @@ impl Record {
     /// The refusals of `sfmt`.
     #[tactic(auto, unfolding(crate::specs::Calls::sfmt_row))]
     pub(crate) fn sfmt_refusal(&self, t: u32) -> Option<Errno>
-        ensures { (f : FourCc) (w h : ℕ) → result ≡ first_refusal (sfmt_row self.now.local t f w h).refusals }
+        ensures { (f : FourCc) (w h : ℕ) → result ≡
+            first_refusal (sfmt_row self.now.local t f w h).refusals }
     {
         if !self.opened {
             return Some(Errno::Ebadf);

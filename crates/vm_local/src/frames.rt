@@ -20,12 +20,15 @@ use v4l_rules::place_in;
 const FRAME_TIME: u64 = 40_000;
 
 impl Record {
-    /// Takes the buffers of a frame, with this many bytes in use in that of its picture. What it leaves is owed: the event
-    /// that tells of it, where it is a good one, and a buffer of each queue.
+    /// Takes the buffers of a frame, with this many bytes in use in that of its picture. What it
+    /// leaves is owed: the event that tells of it, where it is a good one, and a buffer of each
+    /// queue.
     pub(crate) fn take_frame(&mut self, good: bool, used: u32)
         requires room { 0 < self.old.room }
         requires ready { can_finish self.old.local ≡ true }
-        ensures frame { self.new.local ≡ with_target_used self.old.local used (heads_taken self.old.local good ((if good then sync_of self.old.local else []) ++ buffers_taken self.old.local)) }
+        ensures frame { self.new.local ≡ with_target_used self.old.local used
+            (heads_taken self.old.local good ((if good then sync_of self.old.local else []) ++
+            buffers_taken self.old.local)) }
         ensures room { self.old.room ≤ self.new.room + 1 }
     {
         let timestamp = self.next_timestamp();
@@ -104,7 +107,12 @@ fn push_some(owed: &mut Vec<Owed>, entry: Option<Owed>)
 /// Puts the buffers that a frame takes behind what is owed, one of each queue.
 fn push_heads(owed: &mut Vec<Owed>, types: &[u32], queues: &Queues)
     requires { vec_len owed.old + length types.now ≤ vec_capacity owed.old }
-    ensures items { owed.new.items ≡ owed.old.items ++ map (λ t. record { queue = t; item = OwedBuffer (head (slice_index_or queues.now (place_in types.now t) opening_queue)) }) types.now }
+    ensures items { owed.new.items ≡ owed.old.items ++
+        map (λ t. record {
+          queue = t;
+          item = OwedBuffer
+              (head (slice_index_or queues.now (place_in types.now t) opening_queue));
+        }) types.now }
     ensures len { vec_len owed.new ≡ vec_len owed.old + length types.now }
     ensures capacity { vec_capacity owed.new ≡ vec_capacity owed.old }
 {

@@ -12,7 +12,8 @@ use crate::bytes::Bytes;
 use std::alloc::Global;
 use vm_mem::Memory;
 
-/// `count` fresh buffers of `size` bytes; those of the device have the memories with the numbers from `first` on.
+/// `count` fresh buffers of `size` bytes; those of the device have the memories with the numbers
+/// from `first` on.
 pub fn fresh_buffers(kind: MemoryKind, size: u32, first: u64, count: u32) -> Buffers
     requires first { first < 2 ^ 63 }
     requires count { count ≤ 32 }
@@ -81,11 +82,13 @@ fn mapped_memories(alloc: Global, size: u32, count: u32) -> Result<Vec<Bytes>, M
     Ok(memories)
 }
 
-/// Puts the lengths of the memories of `count` fresh buffers of `size` bytes behind those that there are.
+/// Puts the lengths of the memories of `count` fresh buffers of `size` bytes behind those that
+/// there are.
 #[tactic(auto, using(crate::proofs::RecordLemmas::unwritten_more))]
 pub fn push_fresh(lengths: &mut Vec<u32>, kind: MemoryKind, size: u32, count: u32)
     requires { vec_len lengths.old + count ≤ vec_capacity lengths.old }
-    ensures items { map unwritten lengths.new.items ≡ map unwritten lengths.old.items ++ fresh_memories kind size count }
+    ensures items { map unwritten lengths.new.items ≡ map unwritten lengths.old.items ++
+        fresh_memories kind size count }
     ensures len { vec_len lengths.new ≤ vec_len lengths.old + count }
     ensures capacity { vec_capacity lengths.new ≡ vec_capacity lengths.old }
 {

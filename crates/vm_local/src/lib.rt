@@ -1,5 +1,5 @@
-//! One V4L2 handle as a process alone on a machine would see it: its state, its calls with their refusals, the
-//! device's own steps, and which logs are legal.
+//! One V4L2 handle as a process alone on a machine would see it: its state, its calls with their
+//! refusals, the device's own steps, and which logs are legal.
 #![tactic(auto)]
 
 mod answers;

@@ -6,8 +6,8 @@ use crate::record::Record;
 use std::alloc::Global;
 use std::marker::Model;
 
-/// One V4L2 handle as a process alone on a machine would see it: the plain slow machine. It is a record with the bytes of
-/// each memory.
+/// One V4L2 handle as a process alone on a machine would see it: the plain slow machine. It is a
+/// record with the bytes of each memory.
 #[derive(Drop)]
 pub struct Local {
     pub(crate) record: Record,
@@ -24,7 +24,8 @@ impl Model for Local {
 
     ghost view = { λ l. with_memories l.record.local l.memories.items };
 
-    ghost invariant = { λ l. l.record.local ≡ without_bytes (with_memories l.record.local l.memories.items) };
+    ghost invariant = { λ l. l.record.local ≡
+        without_bytes (with_memories l.record.local l.memories.items) };
 }
 
 impl Local {

@@ -40,7 +40,8 @@ impl Record {
 
     /// The format of the source queue, where the model has one.
     fn source_format(&self) -> Option<Fmt>
-        ensures value { result ≡ source_format queue_kind self.now.local.model self.now.local.queues }
+        ensures value { result ≡
+            source_format queue_kind self.now.local.model self.now.local.queues }
         ensures adjusted { IfSome result IsAdjusted }
     {
         match self.model.source_queue() {
@@ -172,7 +173,8 @@ impl Record {
         self.queues.use_memory(memory)
     }
 
-    /// Whether a memory is live: it is that of a buffer that isn't Idle or that the device made, or a name is bound to it.
+    /// Whether a memory is live: it is that of a buffer that isn't Idle or that the device made, or
+    /// a name is bound to it.
     pub fn is_live(&self, memory: u64) -> bool
         ensures { result ≡ is_live self.now.local memory }
     {

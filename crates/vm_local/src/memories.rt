@@ -43,7 +43,8 @@ impl Local {
 
     /// The bytes that a read gives, also where there are more than a reply can have.
     pub(crate) fn bytes_read(&self, m: &Name, off: u32, len: u32) -> &[u8]
-        ensures { result.now ≡ take len (drop off (bytes_of self.now (memory_of (named self.now m.now)))) }
+        ensures { result.now ≡ take len (drop off
+            (bytes_of self.now (memory_of (named self.now m.now)))) }
     {
         part(self.bytes_of(self.memory_named(m)), off, len)
     }
@@ -57,11 +58,16 @@ impl Local {
     }
 }
 
-/// Does to the memories what a call does that no refusal stops, on a handle of which this is the record.
+/// Does to the memories what a call does that no refusal stops, on a handle of which this is the
+/// record.
 #[tactic(auto, unfolding(crate::specs::Calls::querycap_row, crate::specs::Calls::enumfmt_row, crate::specs::Calls::gfmt_row, crate::specs::Calls::tryfmt_row, crate::specs::Calls::sfmt_row, crate::specs::Calls::enuminput_row, crate::specs::Calls::ginput_row, crate::specs::Calls::sinput_row, crate::specs::Calls::querybuf_row, crate::specs::Calls::ualloc_row, crate::specs::Calls::qbuf_row, crate::specs::Calls::streamon_row, crate::specs::Calls::streamoff_row, crate::specs::Calls::dqbuf_row, crate::specs::Calls::mmap_row, crate::specs::Calls::munmap_row, crate::specs::Calls::read_row, crate::specs::Calls::hash_row, crate::specs::Calls::write_row, crate::specs::Calls::fill_row, crate::specs::Calls::subscribe_row, crate::specs::Calls::unsubscribe_row, crate::specs::Calls::dqevent_row))]
 pub(crate) fn change(kept: &Record, memories: &mut Vec<Bytes>, call: &Call) -> Result<(), Memory>
-    requires { (line : ℕ) × (addr : ℕ) × (first_refusal (row_of (with_memories kept.now.local memories.old.items) line addr call.now).refusals ≡ None) }
-    ensures ok { (line addr : ℕ) → OnOk result (memories.new.items ≡ (row_of (with_memories kept.now.local memories.old.items) line addr call.now).next.memories) }
+    requires { (line : ℕ) × (addr : ℕ) × (first_refusal
+        (row_of (with_memories kept.now.local memories.old.items) line addr call.now).refusals ≡
+        None) }
+    ensures ok { (line addr : ℕ) → OnOk result
+        (memories.new.items ≡ (row_of
+        (with_memories kept.now.local memories.old.items) line addr call.now).next.memories) }
     ensures err { OnErr result (memories.new.items ≡ memories.old.items) }
 {
     match call {
@@ -105,7 +111,8 @@ pub(crate) fn change(kept: &Record, memories: &mut Vec<Bytes>, call: &Call) -> R
 /// Adds the zeroed memories of a queue's fresh buffers.
 #[tactic(auto, unfolding(crate::specs::Calls::reqbufs_row, crate::specs::Queue::with_buffers))]
 fn add_fresh(kept: &Record, memories: &mut Vec<Bytes>, t: u32, m: u32, n: u32) -> Result<(), Memory>
-    ensures ok { OnOk result (memories.new.items ≡ (reqbufs_row (with_memories kept.now.local memories.old.items) t m n).next.memories) }
+    ensures ok { OnOk result (memories.new.items ≡
+        (reqbufs_row (with_memories kept.now.local memories.old.items) t m n).next.memories) }
     ensures err { OnErr result (memories.new.items ≡ memories.old.items) }
 {
     let count = n.min(BUFFER_LIMIT as u32);
@@ -129,7 +136,9 @@ fn add_zeroed(alloc: Global, memories: &mut Vec<Bytes>, len: u32) -> Result<(), 
 /// Writes bytes into a memory, where there is one with this number.
 fn write_at(memories: &mut [Bytes], memory: usize, at: u32, bytes: &[u8])
     requires { at + length bytes.now ≤ length (slice_index_or memories.old memory []) }
-    ensures { memories.new ≡ slice_set memories.old memory (take at (slice_index_or memories.old memory []) ++ (bytes.now ++ drop (at + length bytes.now) (slice_index_or memories.old memory []))) }
+    ensures { memories.new ≡ slice_set memories.old memory
+        (take at (slice_index_or memories.old memory []) ++
+        (bytes.now ++ drop (at + length bytes.now) (slice_index_or memories.old memory []))) }
 {
     if memory < memories.len() {
         let kept = &mut memories[memory];
@@ -139,7 +148,8 @@ fn write_at(memories: &mut [Bytes], memory: usize, at: u32, bytes: &[u8])
 
 /// Fills a memory, where there is one with this number.
 fn fill_at(memories: &mut [Bytes], memory: usize, seed: u8)
-    ensures { memories.new ≡ slice_set memories.old memory (seeded seed (length (slice_index_or memories.old memory []))) }
+    ensures { memories.new ≡ slice_set memories.old memory
+        (seeded seed (length (slice_index_or memories.old memory []))) }
 {
     if memory < memories.len() {
         let kept = &mut memories[memory];
@@ -150,7 +160,8 @@ fn fill_at(memories: &mut [Bytes], memory: usize, seed: u8)
 /// Puts bytes at the front of a memory, where there is one with this number.
 pub(crate) fn set_front_at(memories: &mut Vec<Bytes>, memory: usize, front: Vec<u8>)
     requires { vec_len front ≤ 925696 }
-    ensures { memories.new.items ≡ slice_set memories.old.items memory (front.items ++ drop (length front.items) (slice_index_or memories.old.items memory [])) }
+    ensures { memories.new.items ≡ slice_set memories.old.items memory
+        (front.items ++ drop (length front.items) (slice_index_or memories.old.items memory [])) }
 {
     if memory < memories.len() {
         let kept = &mut memories[memory];

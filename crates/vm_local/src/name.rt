@@ -7,8 +7,8 @@ use std::marker::Model;
 /// How many bytes a name has at most.
 pub const NAME_LIMIT: usize = 8;
 
-/// The name by which a script's line speaks of a handle, a mapping or user memory: the first `len` of `bytes`, 1 to 8.
-/// Zeros stand behind them. Contracts see a name as the list of its bytes.
+/// The name by which a script's line speaks of a handle, a mapping or user memory: the first `len`
+/// of `bytes`, 1 to 8. Zeros stand behind them. Contracts see a name as the list of its bytes.
 ///
 /// Source: own.
 #[derive(Clone, Copy, Debug, PartialEq, Eq)]
@@ -25,13 +25,15 @@ impl Model for Name {
 
     ghost view = { λ n. take n.len n.bytes };
 
-    ghost invariant = { λ n. (1 ≤ n.len) × (n.len ≤ 8) × (length n.bytes ≡ 8) × (n.bytes ≡ take n.len n.bytes ++ replicate (8 - n.len) 0) };
+    ghost invariant = { λ n. (1 ≤ n.len) × (n.len ≤ 8) × (length n.bytes ≡ 8) ×
+        (n.bytes ≡ take n.len n.bytes ++ replicate (8 - n.len) 0) };
 
     ghost inverse = { λ xs. record { len = length xs; bytes = xs ++ replicate (8 - length xs) 0 } };
 
     ghost inverse_ok = { λ n h i. record {
       len = length-take-le n.len n.bytes (omega (arith, h.1, h.2)) i;
-      bytes = (ap (λ k. take n.len n.bytes ++ replicate (8 - k) 0) (length-take-le n.len n.bytes (omega (arith, h.1, h.2))) ∙ sym h.3) i;
+      bytes = (ap (λ k. take n.len n.bytes ++ replicate (8 - k) 0)
+          (length-take-le n.len n.bytes (omega (arith, h.1, h.2))) ∙ sym h.3) i;
     } };
 }
 

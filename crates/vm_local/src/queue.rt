@@ -175,14 +175,16 @@ impl Queue {
 
     /// Whether one of its buffers has this memory and is Queued or Owed.
     pub fn lends(&self, memory: u64) -> bool
-        ensures { result ≡ list_any (λ b. is_just b.memory memory && is_away b.state) self.now.buffers }
+        ensures { result ≡ list_any
+            (λ b. is_just b.memory memory && is_away b.state) self.now.buffers }
     {
         lends(&self.buffers, memory)
     }
 
     /// Whether one of its buffers has this memory and isn't Idle.
     pub fn uses(&self, memory: u64) -> bool
-        ensures { result ≡ list_any (λ b. is_just b.memory memory && not (is_idle b.state)) self.now.buffers }
+        ensures { result ≡ list_any (λ b. is_just b.memory memory && not
+            (is_idle b.state)) self.now.buffers }
     {
         uses(&self.buffers, memory)
     }
@@ -215,7 +217,8 @@ impl Queue {
 
     /// Stops the queue and gives it other buffers in the place of those that it has.
     pub fn renew(&mut self, memory: MemoryKind, buffers: Buffers)
-        ensures { self.new ≡ record (stopped_queue self.old) { memory = memory; buffers = buffers.items } }
+        ensures { self.new ≡ record
+            (stopped_queue self.old) { memory = memory; buffers = buffers.items } }
     {
         self.stop();
         self.memory = memory;
@@ -225,7 +228,10 @@ impl Queue {
     /// Queues the `i`-th buffer, which becomes this one.
     pub fn queue_buffer(&mut self, i: u32, buffer: Buffer)
         requires { length self.old.queued < length self.old.buffers }
-        ensures { self.new ≡ record (with_buffer self.old i buffer) { queued = self.old.queued ++ i ∷ [] } }
+        ensures { self.new ≡ record (with_buffer self.old i buffer) {
+          queued = self.old.queued ++
+              i ∷ [];
+        } }
     {
         set_buffer(&mut self.buffers, i, buffer);
         self.queued.push(i);
@@ -309,7 +315,8 @@ impl Queue {
 
     /// Whether one of its buffers has this memory, which the device made.
     pub fn owns(&self, memory: u64) -> bool
-        ensures { result ≡ (not (is_user_ptr self.now.memory) && list_any (λ b. is_just b.memory memory) self.now.buffers) }
+        ensures { result ≡ (not (is_user_ptr self.now.memory) && list_any
+            (λ b. is_just b.memory memory) self.now.buffers) }
     {
         !self.is_user_ptr() && have(&self.buffers, memory)
     }

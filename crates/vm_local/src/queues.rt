@@ -60,7 +60,8 @@ impl Queues {
     pub fn set_format(&mut self, place: usize, format: Fmt)
         requires place { place < length self.old }
         requires adjusted { IsAdjusted format }
-        ensures { self.new ≡ slice_set (map (resized format) self.old) place (record (slice_index_or self.old place opening_queue) { format = format }) }
+        ensures { self.new ≡ slice_set (map (resized format) self.old) place
+            (record (slice_index_or self.old place opening_queue) { format = format }) }
     {
         reformat(self.kept.as_mut_slice(), place, format);
     }
@@ -73,7 +74,8 @@ impl Queues {
         &self.kept.as_slice()[place]
     }
 
-    /// The index of the buffer that the next frame takes from the queue at a place, 0 where there is no queue.
+    /// The index of the buffer that the next frame takes from the queue at a place, 0 where there
+    /// is no queue.
     #[tactic(auto, using(std::proofs::lemmas::List::get_or_past))]
     pub fn head_at(&self, place: usize) -> u32
         ensures { result ≡ head (slice_index_or self.now place opening_queue) }
@@ -104,7 +106,8 @@ impl Queues {
     /// Stops a queue.
     pub fn stop(&mut self, place: usize)
         requires { place < length self.old }
-        ensures { self.new ≡ slice_set self.old place (stopped_queue (slice_index_or self.old place opening_queue)) }
+        ensures { self.new ≡ slice_set self.old place
+            (stopped_queue (slice_index_or self.old place opening_queue)) }
     {
         let queue = &mut self.kept.as_mut_slice()[place];
         queue.stop();
@@ -113,7 +116,11 @@ impl Queues {
     /// Stops a queue and gives it other buffers.
     pub fn renew(&mut self, place: usize, memory: MemoryKind, buffers: Buffers)
         requires { place < length self.old }
-        ensures { self.new ≡ slice_set self.old place (record (stopped_queue (slice_index_or self.old place opening_queue)) { memory = memory; buffers = buffers.items }) }
+        ensures { self.new ≡ slice_set self.old place
+            (record (stopped_queue (slice_index_or self.old place opening_queue)) {
+              memory = memory;
+              buffers = buffers.items;
+            }) }
     {
         let queue = &mut self.kept.as_mut_slice()[place];
         queue.renew(memory, buffers);
@@ -122,8 +129,13 @@ impl Queues {
     /// Queues a buffer, which becomes this one.
     pub fn queue_buffer(&mut self, place: usize, i: u32, buffer: Buffer)
         requires place { place < length self.old }
-        requires room { length (slice_index_or self.old place opening_queue).queued < length (slice_index_or self.old place opening_queue).buffers }
-        ensures { self.new ≡ slice_set self.old place (record (with_buffer (slice_index_or self.old place opening_queue) i buffer) { queued = (slice_index_or self.old place opening_queue).queued ++ i ∷ [] }) }
+        requires room { length (slice_index_or self.old place opening_queue).queued < length
+            (slice_index_or self.old place opening_queue).buffers }
+        ensures { self.new ≡ slice_set self.old place
+            (record (with_buffer (slice_index_or self.old place opening_queue) i buffer) {
+              queued =
+                  (slice_index_or self.old place opening_queue).queued ++ i ∷ [];
+            }) }
     {
         let queue = &mut self.kept.as_mut_slice()[place];
         queue.queue_buffer(i, buffer);
@@ -132,7 +144,8 @@ impl Queues {
     /// Starts a queue.
     pub fn start(&mut self, place: usize)
         requires { place < length self.old }
-        ensures { self.new ≡ slice_set self.old place (started (slice_index_or self.old place opening_queue)) }
+        ensures { self.new ≡ slice_set self.old place
+            (started (slice_index_or self.old place opening_queue)) }
     {
         let queue = &mut self.kept.as_mut_slice()[place];
         queue.start();
@@ -141,7 +154,8 @@ impl Queues {
     /// Gives the first done buffer of a queue back.
     pub fn take_back(&mut self, place: usize)
         requires { place < length self.old }
-        ensures { self.new ≡ slice_set self.old place (taken_back (slice_index_or self.old place opening_queue)) }
+        ensures { self.new ≡ slice_set self.old place
+            (taken_back (slice_index_or self.old place opening_queue)) }
     {
         let queue = &mut self.kept.as_mut_slice()[place];
         queue.take_back();
@@ -150,7 +164,8 @@ impl Queues {
     /// Sets how many bytes of a queue's buffer are in use, where there is a queue at this place.
     #[tactic(auto, using(std::proofs::lemmas::List::set_past))]
     pub fn set_used(&mut self, place: usize, i: u32, used: u32)
-        ensures { self.new ≡ slice_set self.old place (with_used (slice_index_or self.old place opening_queue) i used) }
+        ensures { self.new ≡ slice_set self.old place
+            (with_used (slice_index_or self.old place opening_queue) i used) }
     {
         if place < self.kept.len() {
             let queue = &mut self.kept.as_mut_slice()[place];
@@ -161,8 +176,10 @@ impl Queues {
     /// Puts a buffer behind the done ones of its queue.
     pub fn give(&mut self, place: usize, i: u32)
         requires place { place < length self.old }
-        requires room { length (slice_index_or self.old place opening_queue).done < length (slice_index_or self.old place opening_queue).buffers }
-        ensures { self.new ≡ slice_set self.old place (with_done (slice_index_or self.old place opening_queue) i) }
+        requires room { length (slice_index_or self.old place opening_queue).done < length
+            (slice_index_or self.old place opening_queue).buffers }
+        ensures { self.new ≡ slice_set self.old place
+            (with_done (slice_index_or self.old place opening_queue) i) }
     {
         let queue = &mut self.kept.as_mut_slice()[place];
         queue.give(i);
@@ -205,21 +222,24 @@ impl Queues {
 
     /// Whether the buffer of a memory is Queued or Owed.
     pub fn lend(&self, memory: u64) -> bool
-        ensures { result ≡ list_any (λ q. list_any (λ b. is_just b.memory memory && is_away b.state) q.buffers) self.now }
+        ensures { result ≡ list_any (λ q. list_any
+            (λ b. is_just b.memory memory && is_away b.state) q.buffers) self.now }
     {
         lend(self.kept.as_slice(), memory)
     }
 
     /// Whether the buffer of a memory isn't Idle.
     pub fn use_memory(&self, memory: u64) -> bool
-        ensures { result ≡ list_any (λ q. list_any (λ b. is_just b.memory memory && not (is_idle b.state)) q.buffers) self.now }
+        ensures { result ≡ list_any (λ q. list_any
+            (λ b. is_just b.memory memory && not (is_idle b.state)) q.buffers) self.now }
     {
         use_memory(self.kept.as_slice(), memory)
     }
 
     /// Whether the device made the memory for one of their buffers.
     pub fn own(&self, memory: u64) -> bool
-        ensures { result ≡ list_any (λ q. not (is_user_ptr q.memory) && list_any (λ b. is_just b.memory memory) q.buffers) self.now }
+        ensures { result ≡ list_any (λ q. not (is_user_ptr q.memory) && list_any
+            (λ b. is_just b.memory memory) q.buffers) self.now }
     {
         own(self.kept.as_slice(), memory)
     }
@@ -241,7 +261,8 @@ fn begun(alloc: Global, count: usize) -> ArrayVec<Queue, QUEUE_LIMIT, Global>
 fn reformat(queues: &mut [Queue], place: usize, format: Fmt)
     requires place { place < length queues.old }
     requires adjusted { IsAdjusted format }
-    ensures { queues.new ≡ slice_set (map (resized format) queues.old) place (record (slice_index_or queues.old place opening_queue) { format = format }) }
+    ensures { queues.new ≡ slice_set (map (resized format) queues.old) place
+        (record (slice_index_or queues.old place opening_queue) { format = format }) }
 {
     resize(queues, format);
     let queue = &mut queues[place];
@@ -293,19 +314,22 @@ fn are_ready(queues: &[Queue]) -> bool
 }
 
 fn lend(queues: &[Queue], memory: u64) -> bool
-    ensures { result ≡ list_any (λ q. list_any (λ b. is_just b.memory memory && is_away b.state) q.buffers) queues.now }
+    ensures { result ≡ list_any (λ q. list_any
+        (λ b. is_just b.memory memory && is_away b.state) q.buffers) queues.now }
 {
     queues.iter().any(|queue| queue.lends(memory))
 }
 
 fn use_memory(queues: &[Queue], memory: u64) -> bool
-    ensures { result ≡ list_any (λ q. list_any (λ b. is_just b.memory memory && not (is_idle b.state)) q.buffers) queues.now }
+    ensures { result ≡ list_any (λ q. list_any
+        (λ b. is_just b.memory memory && not (is_idle b.state)) q.buffers) queues.now }
 {
     queues.iter().any(|queue| queue.uses(memory))
 }
 
 fn own(queues: &[Queue], memory: u64) -> bool
-    ensures { result ≡ list_any (λ q. not (is_user_ptr q.memory) && list_any (λ b. is_just b.memory memory) q.buffers) queues.now }
+    ensures { result ≡ list_any (λ q. not (is_user_ptr q.memory) && list_any
+        (λ b. is_just b.memory memory) q.buffers) queues.now }
 {
     queues.iter().any(|queue| queue.owns(memory))
 }

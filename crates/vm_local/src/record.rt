@@ -19,12 +19,14 @@ use vm_mem::Memory;
 /// How many events a record has at most, so that their count fits into a reply.
 const EVENT_LIMIT: usize = 4_294_967_294;
 
-/// How many entries of what is owed one entry of a log leaves at most: an event, and a buffer of each queue.
+/// How many entries of what is owed one entry of a log leaves at most: an event, and a buffer of
+/// each queue.
 const OWED_LIMIT: usize = 3;
 
 /// What a handle is but for the bytes of its memories, of which a record keeps how many they are.
 ///
-/// It moves by the entries of a log as the handle's state does, and takes no memory for those that it has room for.
+/// It moves by the entries of a log as the handle's state does, and takes no memory for those that
+/// it has room for.
 ///
 /// Source: own.
 #[derive(Drop)]
@@ -104,7 +106,8 @@ impl Record {
     /// Makes room for so many further entries, where there is less.
     ///
     /// # Errors
-    /// `Memory` where the room can't be had, or where more than 4,294,967,294 events could be listed.
+    /// `Memory` where the room can't be had, or where more than 4,294,967,294 events could be
+    /// listed.
     pub fn reserve(&mut self, entries: usize) -> Result<(), Memory>
         ensures ok { OnOk result (self.new ≡ record self.old { room = max self.old.room entries }) }
         ensures err { OnErr result (self.new ≡ self.old) }
@@ -193,7 +196,8 @@ impl Record {
         ensures has { is_some result ≡ has_type self.now.local.model t }
         ensures place { IfSome result (λ p. p ≡ place_in (types_of self.now.local.model) t) }
         ensures within { IfSome result (λ p. p < length self.now.local.queues) }
-        ensures absent { IfNone result (length self.now.local.queues ≤ place_in (types_of self.now.local.model) t) }
+        ensures absent { IfNone result (length self.now.local.queues ≤
+            place_in (types_of self.now.local.model) t) }
     {
         let types = self.model.queues();
         let place = place_in(types, t);

@@ -12,21 +12,24 @@ use v4l_const::Errno;
 impl Record {
     /// The first refusal that applies to a call from each state that this is the record of.
     pub fn refusal(&self, call: &Call) -> Option<Errno>
-        ensures { (s : LocalState) → self.now.local ≡ without_bytes s → (line addr : ℕ) → result ≡ first_refusal (row_of s line addr call.now).refusals }
+        ensures { (s : LocalState) → self.now.local ≡ without_bytes s → (line addr : ℕ) →
+            result ≡ first_refusal (row_of s line addr call.now).refusals }
     {
         self.row_refusal(call)
     }
 
     /// Whether a call that no refusal stops has no reply yet.
     pub fn waits(&self, call: &Call) -> bool
-        ensures { (s : LocalState) → self.now.local ≡ without_bytes s → (line addr : ℕ) → result ≡ (row_of s line addr call.now).waits }
+        ensures { (s : LocalState) → self.now.local ≡ without_bytes s → (line addr : ℕ) →
+            result ≡ (row_of s line addr call.now).waits }
     {
         self.row_waits(call)
     }
 
     /// The first refusal that applies to a call from the record itself.
     pub(crate) fn row_refusal(&self, call: &Call) -> Option<Errno>
-        ensures { (line addr : ℕ) → result ≡ first_refusal (row_of self.now.local line addr call.now).refusals }
+        ensures { (line addr : ℕ) → result ≡ first_refusal
+            (row_of self.now.local line addr call.now).refusals }
     {
         match call {
             Call::OpenHandle { .. } => None,
@@ -77,7 +80,8 @@ impl Record {
 /// Whether a call may answer ENOMEM where no refusal applies.
 #[tactic(auto, unfolding(crate::specs::Calls::querycap_row, crate::specs::Calls::enumfmt_row, crate::specs::Calls::gfmt_row, crate::specs::Calls::tryfmt_row, crate::specs::Calls::sfmt_row, crate::specs::Calls::enuminput_row, crate::specs::Calls::ginput_row, crate::specs::Calls::sinput_row, crate::specs::Calls::reqbufs_row, crate::specs::Calls::querybuf_row, crate::specs::Calls::ualloc_row, crate::specs::Calls::qbuf_row, crate::specs::Calls::streamon_row, crate::specs::Calls::streamoff_row, crate::specs::Calls::dqbuf_row, crate::specs::Calls::mmap_row, crate::specs::Calls::munmap_row, crate::specs::Calls::read_row, crate::specs::Calls::hash_row, crate::specs::Calls::write_row, crate::specs::Calls::fill_row, crate::specs::Calls::subscribe_row, crate::specs::Calls::unsubscribe_row, crate::specs::Calls::dqevent_row))]
 pub(crate) fn may_lack_memory(call: &Call) -> bool
-    ensures { (s : LocalState) (line addr : ℕ) → result ≡ (row_of s line addr call.now).may_lack_memory }
+    ensures { (s : LocalState) (line addr : ℕ) →
+        result ≡ (row_of s line addr call.now).may_lack_memory }
 {
     match call {
         Call::OpenHandle { .. } | Call::UAlloc { .. } | Call::Mmap { .. } => true,

@@ -37,7 +37,8 @@ pub enum Reply {
     },
     /// How many pages the user memory has.
     Pages(u32),
-    /// A finished buffer: the bytes in use, its frame's number, a timestamp in microseconds, and flags.
+    /// A finished buffer: the bytes in use, its frame's number, a timestamp in microseconds, and
+    /// flags.
     Frame {
         index: u32,
         used: u32,
@@ -54,7 +55,8 @@ pub enum Reply {
     Bytes(Small),
     /// The SHA-256 of the bytes.
     Digest([u8; 32]),
-    /// An event: its type, the number of its frame, how many events are left after it, and its own number.
+    /// An event: its type, the number of its frame, how many events are left after it, and its own
+    /// number.
     Event {
         kind: u32,
         frame: u32,

@@ -6,8 +6,8 @@ use std::marker::Model;
 /// How many bytes one read or write carries at most.
 pub const SMALL_LIMIT: usize = 256;
 
-/// The bytes of one read or write: the first `len` of `bytes`, at most 256. Zeros stand behind them. Contracts see them
-/// as the list of those bytes.
+/// The bytes of one read or write: the first `len` of `bytes`, at most 256. Zeros stand behind
+/// them. Contracts see them as the list of those bytes.
 ///
 /// Source: own.
 #[derive(Clone, Copy, Debug, PartialEq, Eq)]
@@ -24,13 +24,19 @@ impl Model for Small {
 
     ghost view = { λ s. take s.len s.bytes };
 
-    ghost invariant = { λ s. (s.len ≤ 256) × (length s.bytes ≡ 256) × (s.bytes ≡ take s.len s.bytes ++ replicate (256 - s.len) 0) };
+    ghost invariant = { λ s. (s.len ≤ 256) × (length s.bytes ≡ 256) ×
+        (s.bytes ≡ take s.len s.bytes ++ replicate (256 - s.len) 0) };
 
-    ghost inverse = { λ xs. record { len = length xs; bytes = xs ++ replicate (256 - length xs) 0 } };
+    ghost inverse = { λ xs. record {
+      len = length xs;
+      bytes = xs ++
+          replicate (256 - length xs) 0;
+    } };
 
     ghost inverse_ok = { λ s h i. record {
       len = length-take-le s.len s.bytes (omega (arith, h.0, h.1)) i;
-      bytes = (ap (λ k. take s.len s.bytes ++ replicate (256 - k) 0) (length-take-le s.len s.bytes (omega (arith, h.0, h.1))) ∙ sym h.2) i;
+      bytes = (ap (λ k. take s.len s.bytes ++ replicate (256 - k) 0)
+          (length-take-le s.len s.bytes (omega (arith, h.0, h.1))) ∙ sym h.2) i;
     } };
 }
 

@@ -35,7 +35,8 @@ impl Local {
     /// Makes a call, where it can have this reply.
     #[tactic(auto, unfolding(crate::specs::Log::called))]
     fn call(&mut self, line: u32, call: &Call, reply: &Reply) -> Result<bool, Memory>
-        ensures ok { IfOk result (λ legal. Stepped (called self.old line call.now reply.now) self.old self.new legal) }
+        ensures ok { IfOk result (λ legal. Stepped
+            (called self.old line call.now reply.now) self.old self.new legal) }
         ensures err { OnErr result (self.new ≡ self.old) }
     {
         if let Some(errno) = self.refusal(call) {
@@ -53,7 +54,8 @@ impl Local {
 
     /// The first refusal that applies to a call.
     fn refusal(&self, call: &Call) -> Option<Errno>
-        ensures { (line addr : ℕ) → result ≡ first_refusal (row_of self.now line addr call.now).refusals }
+        ensures { (line addr : ℕ) → result ≡ first_refusal
+            (row_of self.now line addr call.now).refusals }
     {
         self.record.refusal(call)
     }
@@ -68,7 +70,8 @@ impl Local {
     /// Whether this is the reply of a call that no refusal stops.
     #[tactic(auto, unfolding(crate::specs::Calls::read_row))]
     fn answers(&self, call: &Call, reply: &Reply) -> bool
-        ensures { (line : ℕ) → result ≡ same_reply (row_of self.now line (address_in reply.now) call.now).reply reply.now }
+        ensures { (line : ℕ) → result ≡ same_reply
+            (row_of self.now line (address_in reply.now) call.now).reply reply.now }
     {
         match call {
             Call::Peek { m, off, len } => reply.is_bytes(self.bytes_read(m, *off, *len)),

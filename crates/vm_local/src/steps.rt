@@ -18,11 +18,12 @@ use v4l_format::sizeimage;
 use v4l_rules::place_in;
 
 impl Record {
-    /// Moves by an entry: where it leads from a state that this is the record of to another, this is the record of that
-    /// one then. At an entry that isn't legal it is some record.
+    /// Moves by an entry: where it leads from a state that this is the record of to another, this
+    /// is the record of that one then. At an entry that isn't legal it is some record.
     pub fn after(&mut self, entry: &Entry)
         requires room { 0 < self.old.room }
-        ensures moves { (s t : LocalState) → self.old.local ≡ without_bytes s → after s entry.now ≡ Some t → self.new.local ≡ without_bytes t }
+        ensures moves { (s t : LocalState) → self.old.local ≡ without_bytes s →
+            after s entry.now ≡ Some t → self.new.local ≡ without_bytes t }
         ensures room { self.new.room + 1 ≡ self.old.room }
     {
         let left = self.room - 1;
@@ -33,7 +34,8 @@ impl Record {
     /// The same, where as much room is left as there is.
     fn step(&mut self, entry: &Entry)
         requires room { 0 < self.old.room }
-        ensures moves { (s t : LocalState) → self.old.local ≡ without_bytes s → after s entry.now ≡ Some t → self.new.local ≡ without_bytes t }
+        ensures moves { (s t : LocalState) → self.old.local ≡ without_bytes s →
+            after s entry.now ≡ Some t → self.new.local ≡ without_bytes t }
         ensures room { self.old.room ≤ self.new.room + 1 }
     {
         match entry {
@@ -47,7 +49,8 @@ impl Record {
     /// Does a call that is answered so.
     fn call(&mut self, line: u32, call: &Call, reply: &Reply)
         requires room { 0 < self.old.room }
-        ensures moves { (s t : LocalState) → self.old.local ≡ without_bytes s → called s line call.now reply.now ≡ Some t → self.new.local ≡ without_bytes t }
+        ensures moves { (s t : LocalState) → self.old.local ≡ without_bytes s →
+            called s line call.now reply.now ≡ Some t → self.new.local ≡ without_bytes t }
         ensures room { self.old.room ≤ self.new.room + 1 }
     {
         if reply.is_refusal() || self.row_refusal(call).is_some() || self.row_waits(call) {
@@ -59,7 +62,8 @@ impl Record {
     /// Finishes a frame, where one can be finished.
     fn finish(&mut self)
         requires room { 0 < self.old.room }
-        ensures moves { (s t : LocalState) → self.old.local ≡ without_bytes s → finished s ≡ Some t → self.new.local ≡ without_bytes t }
+        ensures moves { (s t : LocalState) → self.old.local ≡ without_bytes s →
+            finished s ≡ Some t → self.new.local ≡ without_bytes t }
         ensures room { self.old.room ≤ self.new.room + 1 }
     {
         if self.can_finish() {
@@ -67,11 +71,16 @@ impl Record {
         }
     }
 
-    /// Takes the buffers of a frame that is finished. Its picture is at the front of a memory, which is as long then at least.
+    /// Takes the buffers of a frame that is finished. Its picture is at the front of a memory,
+    /// which is as long then at least.
     fn make_frame(&mut self)
         requires room { 0 < self.old.room }
         requires ready { can_finish self.old.local ≡ true }
-        ensures frame { self.new.local ≡ without_bytes (with_picture self.old.local (with_target_used self.old.local (picture_size (target self.old.local).format) (heads_taken self.old.local true (sync_of self.old.local ++ buffers_taken self.old.local)))) }
+        ensures frame { self.new.local ≡ without_bytes
+            (with_picture self.old.local (with_target_used self.old.local
+            (picture_size (target self.old.local).format)
+            (heads_taken self.old.local true (sync_of self.old.local ++
+            buffers_taken self.old.local)))) }
         ensures room { self.old.room ≤ self.new.room + 1 }
     {
         let size = self.target_size();
@@ -83,7 +92,8 @@ impl Record {
     /// Fails a frame, where one could be finished.
     fn fail(&mut self)
         requires room { 0 < self.old.room }
-        ensures moves { (s t : LocalState) → self.old.local ≡ without_bytes s → marked_bad s ≡ Some t → self.new.local ≡ without_bytes t }
+        ensures moves { (s t : LocalState) → self.old.local ≡ without_bytes s →
+            marked_bad s ≡ Some t → self.new.local ≡ without_bytes t }
         ensures room { self.old.room ≤ self.new.room + 1 }
     {
         if self.can_finish() {
@@ -109,7 +119,8 @@ impl Record {
     /// Hands over what is owed first, where something is.
     fn give(&mut self)
         requires room { 0 < self.old.room }
-        ensures moves { (s t : LocalState) → self.old.local ≡ without_bytes s → given s ≡ Some t → self.new.local ≡ without_bytes t }
+        ensures moves { (s t : LocalState) → self.old.local ≡ without_bytes s → given s ≡ Some t →
+            self.new.local ≡ without_bytes t }
         ensures room { self.old.room ≤ self.new.room + 1 }
     {
         if let Some(first) = self.first_owed() {
@@ -121,7 +132,8 @@ impl Record {
     fn give_item(&mut self, first: Owed)
         requires room { 0 < self.old.room }
         requires first { slice_get self.old.local.owed 0 ≡ Some first }
-        ensures item { self.new.local ≡ item_given (record self.old.local { owed = drop 1 self.old.local.owed }) first.queue first.item }
+        ensures item { self.new.local ≡ item_given
+            (record self.old.local { owed = drop 1 self.old.local.owed }) first.queue first.item }
         ensures room { self.old.room ≤ self.new.room + 1 }
     {
         match first.item {
@@ -131,8 +143,12 @@ impl Record {
     }
 
     fn give_buffer(&mut self, t: u32, i: u32)
-        requires { slice_get self.old.local.owed 0 ≡ Some (record { queue = t; item = OwedBuffer i }) }
-        ensures { self.new ≡ record self.old { local = buffer_given (record self.old.local { owed = drop 1 self.old.local.owed }) t i } }
+        requires { slice_get self.old.local.owed 0 ≡
+            Some (record { queue = t; item = OwedBuffer i }) }
+        ensures { self.new ≡ record self.old {
+          local = buffer_given
+              (record self.old.local { owed = drop 1 self.old.local.owed }) t i;
+        } }
     {
         let place = place_in(self.model.queues(), t);
         self.queues.give(place, i);
@@ -141,8 +157,10 @@ impl Record {
 
     fn give_event(&mut self, t: u32, frame: u32)
         requires room { 0 < self.old.room }
-        requires first { slice_get self.old.local.owed 0 ≡ Some (record { queue = t; item = Sync frame }) }
-        ensures event { self.new.local ≡ event_given (record self.old.local { owed = drop 1 self.old.local.owed }) frame }
+        requires first { slice_get self.old.local.owed 0 ≡
+            Some (record { queue = t; item = Sync frame }) }
+        ensures event { self.new.local ≡ event_given
+            (record self.old.local { owed = drop 1 self.old.local.owed }) frame }
         ensures room { self.old.room ≤ self.new.room + 1 }
     {
         if self.subscribed {
@@ -170,7 +188,8 @@ fn remove_first(owed: &mut Vec<Owed>)
 
 /// A memory has at least so many bytes, where there is one with this number.
 fn lengthen(lengths: &mut Vec<u32>, memory: u64, size: u32)
-    ensures items { lengths.new.items ≡ slice_set lengths.old.items memory (max (slice_index lengths.old.items memory) size) }
+    ensures items { lengths.new.items ≡ slice_set lengths.old.items memory
+        (max (slice_index lengths.old.items memory) size) }
     ensures len { vec_len lengths.new ≡ vec_len lengths.old }
     ensures capacity { vec_capacity lengths.new ≡ vec_capacity lengths.old }
 {

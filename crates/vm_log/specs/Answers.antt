@@ -89,7 +89,8 @@ AsksFew (Peek m off len) = len ≤ 256
 AsksFew call = Unit {0}
 
 -- the memory of the line was at home, and is out with this lease
-pub record GoesOut (old : LogState) (line : ℕ) (call : Call) (out : LeaseParts) (new : LogState) : Type 0 where
+pub record GoesOut (old : LogState) (line : ℕ) (call : Call) (out : LeaseParts)
+    (new : LogState) : Type 0 where
   pub mem : Mem
   pub entry : LeaseOut
   pub there : home_of old.home (touched (state_of old) call) ≡ Some mem

@@ -105,7 +105,8 @@ pub record IsSound (l : LogState) : Type 0 where
 
 -- What the fields of a log keep: the log is legal, the record shows the state that it leads to, and
 -- each memory is in its place.
-pub record Keeps (m : Model) (log : List Entry) (kept : LocalState) (home : List (Option Mem)) (away : Away) (unanswered : Bool) : Type 0 where
+pub record Keeps (m : Model) (log : List Entry) (kept : LocalState) (home : List (Option Mem))
+    (away : Away) (unanswered : Bool) : Type 0 where
   pub legal : IsLegal m log
   pub shown : kept ≡ without_bytes (state_after m log)
   pub in_place : AreInPlace (state_after m log) (number_away (state_after m log) away) home

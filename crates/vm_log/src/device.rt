@@ -22,7 +22,8 @@ impl LegalLog {
         requires begun { self.old.unanswered ≡ true }
         requires none_out { self.old.away ≡ Nothing }
         requires unrefused { IsUnrefused (state_of self.old) call.now }
-        ensures { Sends (goes_along (state_of self.old) call.now) self.old call.now result self.new }
+        ensures { Sends (goes_along
+            (state_of self.old) call.now) self.old call.now result self.new }
     {
         let Call::QBuf { t, i, user, .. } = call else {
             return None;

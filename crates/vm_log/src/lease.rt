@@ -54,7 +54,8 @@ impl LegalLog {
         ensures other { IsErr result ↔ (is_lent_to self.old.away lease.line ≡ false) }
         ensures back { IfErr result (λ l. l ≡ lease) }
         ensures ok { OnOk result (self.new ≡ given_back self.old lease) }
-        ensures legal { OnOk result (MayFollow self.old (Called lease.line lease.call lease.reply)) }
+        ensures legal { OnOk result (MayFollow self.old
+            (Called lease.line lease.call lease.reply)) }
         ensures err { OnErr result (self.new ≡ self.old) }
     {
         if !is_lent_to(&self.away, lease.line) {

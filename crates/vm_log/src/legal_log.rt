@@ -58,8 +58,10 @@ impl Model for LegalLog {
       unanswered = l.unanswered;
     } };
 
-    ghost invariant = { λ l. Keeps l.model l.entries.items l.kept.local l.home.places l.away l.unanswered
-        × IsWithin (state_after l.model l.entries.items) (length l.entries.items) l.lines l.begun l.unanswered
+    ghost invariant = { λ l. Keeps l.model l.entries.items l.kept.local l.home.places l.away
+        l.unanswered
+        × IsWithin (state_after l.model l.entries.items)
+        (length l.entries.items) l.lines l.begun l.unanswered
         × (4 * l.lines ≤ vec_capacity l.entries)
         × (4 * l.lines ≤ vec_len l.entries + l.kept.room)
         × (32 * l.lines ≤ l.home.room) };

@@ -24,7 +24,10 @@ impl Model for Marks {
 
     ghost Value = { MarkState };
 
-    ghost view = { λ m. record { flags = flags_from 0 m.count m.marked.items; room = vec_capacity m.marked - m.count } };
+    ghost view = { λ m. record {
+      flags = flags_from 0 m.count m.marked.items;
+      room = vec_capacity m.marked - m.count;
+    } };
 
     // No mark takes memory, since there is room for all numbers.
     ghost invariant = { λ m. AreMarks m.count m.marked.items × (m.count ≤ vec_capacity m.marked) };
@@ -74,7 +77,11 @@ impl Marks {
     /// Counts one more number, which isn't marked.
     pub fn push(&mut self)
         requires { 1 ≤ self.old.room }
-        ensures { self.new ≡ record { flags = self.old.flags ++ false ∷ []; room = self.old.room - 1 } }
+        ensures { self.new ≡ record {
+          flags = self.old.flags ++
+              false ∷ [];
+          room = self.old.room - 1;
+        } }
     {
         self.count += 1;
     }

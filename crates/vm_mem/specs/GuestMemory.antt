@@ -1,5 +1,5 @@
--- What a guest's memory knows of its pages: a finite map from the number of each page that was added to its bytes
--- where it is home, and to None where it is away.
+-- What a guest's memory knows of its pages: a finite map from the number of each page that was
+-- added to its bytes where it is home, and to None where it is away.
 use Rattle.std.specs.Prelude.{◌≡◌, ◌≢◌, ℕ, List, Option, Some}
 use Rattle.std.specs.BTreeMap.{is_at}
 use Rattle.std.specs.Map.{lookup}

@@ -1,4 +1,5 @@
--- Where bytes lie in the pages of a guest: the byte at an address is in the page whose number is the address over 4096.
+-- Where bytes lie in the pages of a guest: the byte at an address is in the page whose number is
+-- the address over 4096.
 use Rattle.std.specs.Prelude.{ℕ, ◌+◌, ◌/◌, ◌%◌, Bool, ◌==◌, ◌&&◌, nat_le}
 
 -- the number of the page that an address lies in
@@ -11,4 +12,5 @@ place_in_page address = address % 4096
 
 -- `len` bytes from `start` on begin in the page numbered `number`, and don't go past its end
 abbrev pub lies_in_page : ℕ → ℕ → ℕ → Bool
-lies_in_page start len number = (number == page_number start) && nat_le (place_in_page start + len) 4096
+lies_in_page start len number =
+    (number == page_number start) && nat_le (place_in_page start + len) 4096

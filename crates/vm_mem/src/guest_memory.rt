@@ -82,7 +82,8 @@ impl GuestMemory {
     /// Lends a page out. It is away from then on. None is answered where it is away or unknown.
     #[tactic(auto, using(std::proofs::lemmas::Map::Steps::set_value_same))]
     pub fn take(&mut self, number: u64) -> Option<Page>
-        ensures value { result ≡ option_map (λ bytes. record { number = number; bytes = bytes }) (home_bytes self.old number) }
+        ensures value { result ≡ option_map (λ bytes. record { number = number; bytes = bytes })
+            (home_bytes self.old number) }
         ensures away { OnSome result (ChangesPage self.old self.new number None) }
         ensures none { IfNone result (self.new ≡ self.old) }
     {

@@ -23,7 +23,8 @@ pub struct Page {
 impl Page {
     /// A page of zeros, or want of memory.
     pub fn make_zero(alloc: Global, number: u64) -> Result<Page, Memory>
-        ensures { IfOk result (λ page. page ≡ record { number = number; bytes = replicate 4096 0 }) }
+        ensures { IfOk result (λ page. page ≡
+            record { number = number; bytes = replicate 4096 0 }) }
     {
         let bytes = PageBytes::make_zero(alloc)?;
         Ok(Page { number, bytes })
@@ -71,8 +72,8 @@ impl Store for Page {
     }
 }
 
-/// Whether the `len` bytes from the address `start` on lie in the page with this number: they begin in it, and don't go past
-/// its end.
+/// Whether the `len` bytes from the address `start` on lie in the page with this number: they begin
+/// in it, and don't go past its end.
 ///
 /// Source: own.
 pub fn lies_in_page(start: u64, len: u32, number: u64) -> bool

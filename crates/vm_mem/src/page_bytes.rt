@@ -43,7 +43,8 @@ impl PageBytes {
 
     pub fn copy_in(&mut self, at: usize, from: &[u8])
         requires { at + length from.now ≤ length self.old }
-        ensures { self.new ≡ take at self.old ++ (from.now ++ drop (at + length from.now) self.old) }
+        ensures { self.new ≡ take at self.old ++
+            (from.now ++ drop (at + length from.now) self.old) }
     {
         self.items[at..at + from.len()].copy_from_slice(from);
     }

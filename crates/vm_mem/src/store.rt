@@ -45,7 +45,8 @@ pub trait Store {
     /// Sets the bytes from `at` on to those of `from`, and no others.
     fn copy_in(&mut self, at: u32, from: &[u8])
         requires { at + length from.now ≤ length (bytes_of self.old) }
-        ensures bytes { bytes_of self.new ≡ take at (bytes_of self.old) ++ (from.now ++ drop (at + length from.now) (bytes_of self.old)) }
+        ensures bytes { bytes_of self.new ≡ take at (bytes_of self.old) ++
+            (from.now ++ drop (at + length from.now) (bytes_of self.old)) }
         ensures rest { rest_of self.new ≡ rest_of self.old }
     {
         // The size fits its type, so no place wraps.

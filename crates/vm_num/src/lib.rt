@@ -1,6 +1,7 @@
 //! Little-endian numbers in runs of bytes, and counts of pages.
 //!
-//! Source: VIRTIO 1.3, 1.4 "Structure Specifications" (le16, le32, le64); the size of a page and `align_up` are own.
+//! Source: VIRTIO 1.3, 1.4 "Structure Specifications" (le16, le32, le64); the size of a page and
+//! `align_up` are own.
 #![tactic(auto)]
 
 mod bytes;

@@ -45,8 +45,8 @@ fn message_in(done: &Finished) -> EventMsg
     decode_event(written(&done.parcel.pages[0], done.used)).unwrap()
 }
 
-/// Takes the event out of a chain that the device finished, and gives the chain, which can be posted again with its room
-/// for memories.
+/// Takes the event out of a chain that the device finished, and gives the chain, which can be
+/// posted again with its room for memories.
 ///
 /// The chain has one page, in which the device wrote a message, and at most one memory came along.
 ///

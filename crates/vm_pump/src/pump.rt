@@ -32,7 +32,8 @@ impl Model for Pump {
     ghost invariant = { λ p. p.room ≤ vec_capacity p.held };
 }
 
-// The place of the oldest of these events that is for a session, or how many there are where none is.
+// The place of the oldest of these events that is for a session, or how many there are where none
+// is.
 fn place_for(held: &[Delivery], session: u32) -> usize
     ensures { result ≡ length (take_while (λ d. not (d.session == session)) held.now) }
 {

@@ -8,8 +8,9 @@ use Rattle.vm_frame.specs.declared.mem.Held.{Held}
 use Rattle.vm_mem.specs.Lists.{first_of, occurrences}
 use Rattle.vm_queue.specs.declared.queued.Queued.{Queued}
 
--- The memory kind, how many buffers there are and how long each is, as they were asked for last. The buffers that are
--- queued, the first one first, and the indices of those that are out, the one that is out longest first.
+-- The memory kind, how many buffers there are and how long each is, as they were asked for last.
+-- The buffers that are queued, the first one first, and the indices of those that are out, the one
+-- that is out longest first.
 pub record Buffers : Type 0 where
   pub kind : ℕ
   pub count : ℕ
@@ -19,7 +20,8 @@ pub record Buffers : Type 0 where
 
 -- so many buffers, all at home
 abbrev pub all_home : ℕ → ℕ → ℕ → Buffers
-all_home kind count length = record { kind = kind; count = count; length = length; queued = []; out = [] }
+all_home kind count length =
+    record { kind = kind; count = count; length = length; queued = []; out = [] }
 
 abbrev pub is_queued : Buffers → ℕ → Bool
 is_queued q index = list_any (λ b. b.buffer.index == index) q.queued
@@ -33,13 +35,15 @@ is_home q index = nat_lt index q.count && (not (is_queued q index) && not (is_ou
 
 -- a buffer is queued behind the others
 abbrev pub pushed : Buffers → BufferRec → Held → Buffers
-pushed q buffer held = record q { queued = q.queued ++ record { buffer = buffer; held = held } ∷ [] }
+pushed q buffer held =
+    record q { queued = q.queued ++ record { buffer = buffer; held = held } ∷ [] }
 
 -- the buffer that is queued first, with its memory
 abbrev pub first_queued : Buffers → Option (BufferRec × Held)
 first_queued q = option_map (λ b. (b.buffer, b.held)) (first_of q.queued)
 
--- the first of these buffers is out, and the others are queued; where there is none, nothing changes
+-- the first of these buffers is out, and the others are queued; where there is none, nothing
+-- changes
 abbrev pub popped_from : List Queued → Buffers → Buffers
 popped_from [] q = q
 popped_from (b ∷ bs) q = record q { queued = bs; out = q.out ++ b.buffer.index ∷ [] }
@@ -63,7 +67,8 @@ drained q = record q { queued = [] }
 abbrev pub away : Buffers → List ℕ
 away q = map (λ b. b.buffer.index) q.queued ++ q.out
 
--- Each buffer is at home, queued or out: those that are away are among the queue's, and none of them is away twice.
+-- Each buffer is at home, queued or out: those that are away are among the queue's, and none of
+-- them is away twice.
 pub record IsSound (q : Buffers) : Type 0 where
   pub few : q.count ≤ 32
   pub below : (index : ℕ) → 1 ≤ occurrences index (away q) → index < q.count

@@ -15,8 +15,8 @@ use vm_mem::Memory;
 /// Source: Linux V4L2, `VIDEO_MAX_FRAME`.
 pub const MAX_BUFFERS: usize = 32;
 
-/// The device's side of one queue. Each of its buffers is at home, queued with its memory, or out: taken from the queue
-/// and not settled.
+/// The device's side of one queue. Each of its buffers is at home, queued with its memory, or out:
+/// taken from the queue and not settled.
 ///
 /// Source: own, after the Linux V4L2 interface, "Streaming I/O".
 #[derive(Drop)]
@@ -35,10 +35,23 @@ impl Model for BufQueue {
 
     ghost Value = { Buffers };
 
-    ghost view = { λ q. record { kind = q.kind; count = q.count; length = q.length; queued = q.queued.items; out = q.out.items } };
+    ghost view = { λ q. record {
+      kind = q.kind;
+      count = q.count;
+      length = q.length;
+      queued = q.queued.items;
+      out = q.out.items;
+    } };
 
     // No call takes memory, since both lists have room for all buffers.
-    ghost invariant = { λ q. IsSound (record { kind = q.kind; count = q.count; length = q.length; queued = q.queued.items; out = q.out.items })
+    ghost invariant = { λ q. IsSound
+        (record {
+          kind = q.kind;
+          count = q.count;
+          length = q.length;
+          queued = q.queued.items;
+          out = q.out.items;
+        })
         × (32 ≤ deque_capacity q.queued) × (32 ≤ vec_capacity q.out) };
 }
 
@@ -56,15 +69,16 @@ impl BufQueue {
         })
     }
 
-    /// The memory kind of the buffers, by its number. Whoever queues a buffer compares its record's with it.
+    /// The memory kind of the buffers, by its number. Whoever queues a buffer compares its record's
+    /// with it.
     pub fn kind(&self) -> u32
         ensures { result ≡ self.now.kind }
     {
         self.kind
     }
 
-    /// How many buffers there are, at most `MAX_BUFFERS`. Their indices are the numbers below it. Each buffer is at home,
-    /// queued or out, so no more are queued and out.
+    /// How many buffers there are, at most `MAX_BUFFERS`. Their indices are the numbers below it.
+    /// Each buffer is at home, queued or out, so no more are queued and out.
     pub fn count(&self) -> u32
         ensures count { result ≡ self.now.count }
         ensures few { self.now.count ≤ 32 }
@@ -74,8 +88,9 @@ impl BufQueue {
         self.count
     }
 
-    /// The length of each buffer, in bytes. Whoever queues a buffer with memory of the device's own, MMAP, compares the
-    /// memory's length with it. The memory of a user buffer may have any length.
+    /// The length of each buffer, in bytes. Whoever queues a buffer with memory of the device's
+    /// own, MMAP, compares the memory's length with it. The memory of a user buffer may have any
+    /// length.
     pub fn length(&self) -> u32
         ensures { result ≡ self.now.length }
     {
@@ -89,7 +104,8 @@ impl BufQueue {
         self.queued.len() as u32
     }
 
-    /// Whether there is a buffer with this index, and it is neither queued nor out, so that `push` takes it.
+    /// Whether there is a buffer with this index, and it is neither queued nor out, so that `push`
+    /// takes it.
     pub fn is_home(&self, index: u32) -> bool
         ensures { result ≡ is_home self.now index }
     {
@@ -98,7 +114,8 @@ impl BufQueue {
             && !has_index(self.out.as_slice(), index)
     }
 
-    /// Makes `count` buffers of `length` bytes with this memory kind, all at home, in place of the earlier ones.
+    /// Makes `count` buffers of `length` bytes with this memory kind, all at home, in place of the
+    /// earlier ones.
     pub fn reset(&mut self, kind: u32, count: u32, length: u32)
         requires none_queued { self.old.queued ≡ [] }
         requires none_out { self.old.out ≡ [] }
@@ -110,8 +127,8 @@ impl BufQueue {
         self.length = length;
     }
 
-    /// Queues a buffer behind the others, with its memory. The memory is handed back exactly where the record's index
-    /// isn't below the count, or the buffer isn't at home.
+    /// Queues a buffer behind the others, with its memory. The memory is handed back exactly where
+    /// the record's index isn't below the count, or the buffer isn't at home.
     pub fn push(&mut self, b: BufferRec, h: Held) -> Result<(), Held>
         ensures refused { IsErr result ↔ (is_home self.old b.index ≡ false) }
         ensures back { IfErr result (λ back. back ≡ h) }
@@ -127,7 +144,8 @@ impl BufQueue {
         Ok(())
     }
 
-    /// Takes the buffer that is queued first. It is out from then on. None is answered exactly where none is queued.
+    /// Takes the buffer that is queued first. It is out from then on. None is answered exactly
+    /// where none is queued.
     pub fn pop(&mut self) -> Option<(BufferRec, Held)>
         ensures first { result ≡ first_queued self.old }
         ensures queue { self.new ≡ popped self.old }
@@ -138,8 +156,8 @@ impl BufQueue {
         Some((buffer, held))
     }
 
-    /// Takes all buffers out of the queue, and puts their memories behind what `back` has, the first one first. The
-    /// buffers are at home from then on.
+    /// Takes all buffers out of the queue, and puts their memories behind what `back` has, the
+    /// first one first. The buffers are at home from then on.
     pub fn drain(&mut self, back: &mut Vec<Held>)
         requires room { vec_len back.old + length self.old.queued ≤ vec_capacity back.old }
         ensures queue { self.new ≡ drained self.old }

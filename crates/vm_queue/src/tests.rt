@@ -43,7 +43,8 @@ fn tag_of(held: &Held) -> u64 {
     }
 }
 
-// A queue of 3 buffers. Those with these indices are queued in turn, with the memories 100, 101 and so on.
+// A queue of 3 buffers. Those with these indices are queued in turn, with the memories 100, 101 and
+// so on.
 fn queue_of(alloc: Global, indices: &[u32]) -> Result<BufQueue, Fail> {
     let mut queue = BufQueue::new(alloc)?;
     queue.reset(MMAP, 3, 64);

@@ -1,5 +1,6 @@
-/// One mapping or unmapping of a range of the shared region. `addr` is the address of the range's first byte in the region,
-/// `pages` its size in pages of 4096 bytes, and `count` how many mappings of the range there are after the entry.
+/// One mapping or unmapping of a range of the shared region. `addr` is the address of the range's
+/// first byte in the region, `pages` its size in pages of 4096 bytes, and `count` how many mappings
+/// of the range there are after the entry.
 ///
 /// Source: own.
 #[derive(Clone, Copy, Debug, PartialEq, Eq)]

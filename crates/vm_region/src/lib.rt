@@ -1,4 +1,5 @@
-//! The region of pages that a device shares with its driver: which ranges of it are live, and the journal of their lives.
+//! The region of pages that a device shares with its driver: which ranges of it are live, and the
+//! journal of their lives.
 #![tactic(auto)]
 
 mod entry;

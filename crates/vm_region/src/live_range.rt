@@ -5,8 +5,8 @@ ghost use Rattle.vm_region.specs.Region.{IsOrderly, Grants, top_of, mapping_coun
 use crate::fit::first_fit;
 use vm_mem::Memory;
 
-/// A range that is mapped: the address of its first byte, its size in pages of 4096 bytes, the tag of the memory that it
-/// was mapped for, and the number of its mappings.
+/// A range that is mapped: the address of its first byte, its size in pages of 4096 bytes, the tag
+/// of the memory that it was mapped for, and the number of its mappings.
 ///
 /// Source: own.
 #[derive(Clone, Copy, Debug, PartialEq, Eq)]
@@ -86,13 +86,15 @@ fn with_count(range: LiveRange, addr: u64, count: u32) -> LiveRange
     }
 }
 
-/// Counts the range of a tag once more, or adds one at the least place where it meets no other. Answers it.
+/// Counts the range of a tag once more, or adds one at the least place where it meets no other.
+/// Answers it.
 pub fn grant(ranges: &mut Vec<LiveRange>, tag: u64, pages: u32) -> Result<LiveRange, Memory>
     requires orderly { IsOrderly ranges.old.items }
     requires small { pages ≤ 225 }
     requires within { top_of ranges.old.items ≤ 4096 * (225 * 16384) }
     requires few { mapping_count ranges.old.items < 2 ^ 32 - 1 }
-    ensures ok { IfOk result (λ given. Grants (range_of tag ranges.old.items) tag pages ranges.old.items given ranges.new.items) }
+    ensures ok { IfOk result (λ given. Grants
+        (range_of tag ranges.old.items) tag pages ranges.old.items given ranges.new.items) }
     ensures err { OnErr result (ranges.new.items ≡ ranges.old.items) }
 {
     if let Some(range) = range_of(ranges.as_slice(), tag) {

@@ -10,8 +10,8 @@ use std::marker::Model;
 use v4l_const::Errno;
 use vm_mem::Memory;
 
-/// The region of 2^22 pages that a device shares with its driver. Each mapping of a memory gives a range of it. The journal
-/// tells of every mapping and unmapping.
+/// The region of 2^22 pages that a device shares with its driver. Each mapping of a memory gives a
+/// range of it. The journal tells of every mapping and unmapping.
 ///
 /// Source: own, after the VIRTIO 1.4 draft, "Media Device", shared memory region.
 #[derive(Drop)]
@@ -43,15 +43,16 @@ impl Region {
         }
     }
 
-    /// Maps the memory of a tag, and answers the address of its range, in bytes from the region's start on. A live range of
-    /// this tag is given again. Else the range starts at the least page where it meets no live range. Where memory is
-    /// wanting, nothing changes.
+    /// Maps the memory of a tag, and answers the address of its range, in bytes from the region's
+    /// start on. A live range of this tag is given again. Else the range starts at the least page
+    /// where it meets no live range. Where memory is wanting, nothing changes.
     pub fn map(&mut self, tag: u64, pages: u32) -> Result<u64, Memory>
         requires some { 1 ≤ pages }
         requires small { pages ≤ 225 }
         requires same { IfSome (range_of tag self.old.ranges) (λ r. r.pages ≡ pages) }
         requires few { map_count self.old.journal < 16384 }
-        ensures ok { IfOk result (λ addr. Maps (range_of tag self.old.ranges) self.old tag pages addr self.new) }
+        ensures ok { IfOk result (λ addr. Maps
+            (range_of tag self.old.ranges) self.old tag pages addr self.new) }
         ensures within { IfOk result (λ addr. addr + 4096 * pages ≤ 4096 * 2 ^ 22) }
         ensures err { OnErr result (self.new ≡ self.old) }
     {
@@ -64,13 +65,15 @@ impl Region {
         Ok(addr)
     }
 
-    /// Gives a mapping of the range that starts at an address back, which is the range of its tag. `EINVAL` is answered
-    /// exactly where no live range starts there, and then nothing changes.
+    /// Gives a mapping of the range that starts at an address back, which is the range of its tag.
+    /// `EINVAL` is answered exactly where no live range starts there, and then nothing changes.
     pub fn unmap(&mut self, addr: u64) -> Result<(), Errno>
         ensures refused { IsErr result ↔ (range_at addr self.old.ranges ≡ None) }
         ensures errno { IfErr result (λ e. e ≡ Einval) }
-        ensures own { IfSome (range_at addr self.old.ranges) (λ r. range_of r.tag self.old.ranges ≡ Some r) }
-        ensures ok { OnOk result (IfSome (range_at addr self.old.ranges) (λ r. Unmaps self.old addr r self.new)) }
+        ensures own { IfSome (range_at addr self.old.ranges)
+            (λ r. range_of r.tag self.old.ranges ≡ Some r) }
+        ensures ok { OnOk result (IfSome (range_at addr self.old.ranges)
+            (λ r. Unmaps self.old addr r self.new)) }
         ensures err { OnErr result (self.new ≡ self.old) }
     {
         let Some(range) = range_at(self.ranges.as_slice(), addr) else {
@@ -87,7 +90,8 @@ impl Region {
     pub fn journal(&self) -> &[RegionEntry]
         ensures entries { result.now ≡ self.now.journal }
         ensures sound { IsSoundJournal result.now }
-        ensures live { (addr : ℕ) → placed_at addr (live_ranges result.now) ≡ option_map placed (range_at addr self.now.ranges) }
+        ensures live { (addr : ℕ) → placed_at addr (live_ranges result.now) ≡
+            option_map placed (range_at addr self.now.ranges) }
         ensures apart { AreApart self.now.ranges }
     {
         self.journal.as_slice()

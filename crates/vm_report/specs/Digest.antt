@@ -18,10 +18,12 @@ use Rattle.vm_report.specs.Logs.{HandleLog, Logs, process_logs}
 -- the command's bytes and then the reply's, where the call crosses from this state
 abbrev pub wire_of_call : ℕ → LocalState → Option Command → Call → Reply → List ℕ
 wire_of_call session s None call reply = []
-wire_of_call session s (Some command) call reply = command_bytes command ++ response_bytes (response_to session s call reply)
+wire_of_call session s (Some command) call reply =
+    command_bytes command ++ response_bytes (response_to session s call reply)
 
 abbrev pub wire_of : ℕ → LocalState → Entry → List ℕ
-wire_of session s (Called line call reply) = wire_of_call session s (command_of session s call) call reply
+wire_of session s (Called line call reply) =
+    wire_of_call session s (command_of session s call) call reply
 wire_of session s Finish = []
 wire_of session s Bad = []
 wire_of session s Give = []
@@ -33,7 +35,8 @@ or_nothing (Some s) wires = wires s
 -- What crossed for a log from this state on, in order. Which calls cross depends on the state.
 abbrev pub wires_from : ℕ → LocalState → List Entry → List ℕ
 wires_from session s [] = []
-wires_from session s (e ∷ es) = wire_of session s e ++ or_nothing (after s e) (λ t. wires_from session t es)
+wires_from session s (e ∷ es) =
+    wire_of session s e ++ or_nothing (after s e) (λ t. wires_from session t es)
 
 -- what crossed for one handle; a handle without a session has no command that names one
 abbrev pub wires_of : Model → HandleLog → List ℕ

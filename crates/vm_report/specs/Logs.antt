@@ -40,10 +40,12 @@ abbrev pub handle_logs : ℕ → List (List ℕ) → List HandleState → List H
 handle_logs process [] handles = []
 handle_logs process (name ∷ names) [] = []
 handle_logs process (name ∷ names) (h ∷ hs) =
-    record { process = process; name = name; session = h.session; entries = h.entries } ∷ handle_logs process names hs
+    record { process = process; name = name; session = h.session; entries = h.entries } ∷
+    handle_logs process names hs
 
 -- the handles of the processes from this number on, in order
 abbrev pub process_logs : ℕ → List ProcessLines → List (List HandleState) → List HandleLog
 process_logs process [] handles = []
 process_logs process (p ∷ ps) [] = []
-process_logs process (p ∷ ps) (hs ∷ rest) = handle_logs process p.handles hs ++ process_logs (process + 1) ps rest
+process_logs process (p ∷ ps) (hs ∷ rest) =
+    handle_logs process p.handles hs ++ process_logs (process + 1) ps rest

@@ -43,7 +43,8 @@ FitsReply Done = Unit {0}
 FitsReply (Refused errno) = Unit {0}
 FitsReply (Caps all device) = Fits32 all × Fits32 device
 FitsReply (Code code) = IsCode code
-FitsReply (Format f line size) = IsCode f.code × Fits32 f.width × Fits32 f.height × Fits32 line × Fits32 size
+FitsReply (Format f line size) =
+    IsCode f.code × Fits32 f.width × Fits32 f.height × Fits32 line × Fits32 size
 FitsReply (InputName input) = Unit {0}
 FitsReply (InputIs input) = Fits32 input
 FitsReply (Count count) = Fits32 count
@@ -54,7 +55,8 @@ FitsReply (Frame index used sequence timestamp flags) =
 FitsReply (Mapped address len) = Fits64 address × Fits32 len
 FitsReply (Bytes bytes) = IsSmall bytes
 FitsReply (Digest digest) = IsDigest digest
-FitsReply (Event kind frame pending sequence) = Fits32 kind × Fits32 frame × Fits32 pending × Fits32 sequence
+FitsReply (Event kind frame pending sequence) =
+    Fits32 kind × Fits32 frame × Fits32 pending × Fits32 sequence
 
 -- an entry of a log
 abbrev pub FitsEntry : Entry → Type 0
@@ -101,14 +103,16 @@ kind_in word = find (λ kind. bytes_eq (kind_text kind) word) kinds
 -- a chain of these bytes, and of room for 0 to 4096 more
 abbrev pub bytes_chain_in : List ℕ → List ℕ → Option RawChain
 bytes_chain_in hex room =
-    option_and_then (λ bytes. option_map (λ n. RawBytes bytes n) (between_in 0 4096 room)) (bytes_in hex)
+    option_and_then (λ bytes. option_map (λ n. RawBytes bytes n) (between_in 0 4096 room))
+    (bytes_in hex)
 
 -- the chain that the words of a raw line post: `raw chain KIND` or `raw bytes HEX ROOM`
 abbrev pub raw_in : List (List ℕ) → Option RawChain
 raw_in (raw ∷ chain ∷ kind ∷ []) =
     if bytes_eq raw (codes "raw") && bytes_eq chain (codes "chain") then kind_in kind else None
 raw_in (raw ∷ bytes ∷ hex ∷ room ∷ []) =
-    if bytes_eq raw (codes "raw") && bytes_eq bytes (codes "bytes") then bytes_chain_in hex room else None
+    if bytes_eq raw (codes "raw") && bytes_eq bytes (codes "bytes") then bytes_chain_in hex room
+    else None
 raw_in words = None
 
 -- each raw line has words that read as its chain, and no words are left
@@ -116,7 +120,8 @@ abbrev pub AreRawWords : List (List ℕ) → List RawLog → Type 0
 AreRawWords [] [] = Unit {0}
 AreRawWords [] (r ∷ rs) = ⊥
 AreRawWords (echo ∷ echoes) [] = ⊥
-AreRawWords (echo ∷ echoes) (r ∷ rs) = (raw_in (words_in echo) ≡ Some r.chain) × AreRawWords echoes rs
+AreRawWords (echo ∷ echoes) (r ∷ rs) =
+    (raw_in (words_in echo) ≡ Some r.chain) × AreRawWords echoes rs
 
 -- ---- printed logs
 

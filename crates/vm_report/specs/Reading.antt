@@ -98,7 +98,8 @@ abbrev pub errno_told : List ℕ → List ℕ → Option Errno
 errno_told number name = option_and_then (named name) (option_and_then errno_of (count_told number))
 
 abbrev pub refusal_told : List (List ℕ) → Option Errno
-refusal_told (err ∷ number ∷ name ∷ []) = if bytes_eq err (codes "err") then errno_told number name else None
+refusal_told (err ∷ number ∷ name ∷ []) =
+    if bytes_eq err (codes "err") then errno_told number name else None
 refusal_told words = None
 
 abbrev pub two_told : {A B C : Type 0} → (A → B → C) → Option A → Option B → Option C
@@ -135,19 +136,23 @@ tells Asks.DqEvent = Kinds.Event
 
 abbrev pub format_told : List ℕ → List ℕ → List ℕ → List ℕ → List ℕ → Option Reply
 format_told code width height line size =
-    option_and_then (λ c. option_and_then (λ w. option_and_then (λ h. option_and_then (λ l. option_map
+    option_and_then (λ c. option_and_then
+    (λ w. option_and_then (λ h. option_and_then (λ l. option_map
     (λ s. Replies.Format (record { code = c; width = w; height = h }) l s)
     (count_told size)) (count_told line)) (count_told height)) (count_told width)) (code_told code)
 
 abbrev pub frame_told : List ℕ → List ℕ → List ℕ → List ℕ → List ℕ → Option Reply
 frame_told index used sequence timestamp flags =
-    option_and_then (λ i. option_and_then (λ u. option_and_then (λ q. option_and_then (λ t. option_map
+    option_and_then (λ i. option_and_then
+    (λ u. option_and_then (λ q. option_and_then (λ t. option_map
     (λ f. Replies.Frame i u q t f)
-    (flags_told flags)) (long_told timestamp)) (count_told sequence)) (count_told used)) (count_told index)
+    (flags_told flags)) (long_told timestamp)) (count_told sequence)) (count_told used))
+    (count_told index)
 
 abbrev pub event_told : List ℕ → List ℕ → List ℕ → List ℕ → Option Reply
 event_told kind frame pending sequence =
-    option_and_then (λ k. option_and_then (λ f. option_and_then (λ p. option_map (λ q. Replies.Event k f p q)
+    option_and_then (λ k. option_and_then
+    (λ f. option_and_then (λ p. option_map (λ q. Replies.Event k f p q)
     (count_told sequence)) (count_told pending)) (count_told frame)) (count_told kind)
 
 -- the reply that these words tell behind an `ok`
@@ -155,14 +160,17 @@ abbrev pub told : Tells → List (List ℕ) → Option Reply
 told Kinds.Nothing [] = Some Replies.Done
 told Kinds.Caps (all ∷ device ∷ []) = two_told Replies.Caps (flags_told all) (flags_told device)
 told Kinds.Code (code ∷ []) = option_map Replies.Code (code_told code)
-told Kinds.Format (code ∷ width ∷ height ∷ line ∷ size ∷ []) = format_told code width height line size
+told Kinds.Format (code ∷ width ∷ height ∷ line ∷ size ∷ []) =
+    format_told code width height line size
 told Kinds.InputName (name ∷ []) = option_map Replies.InputName (input_told name)
 told Kinds.InputIs (input ∷ []) = option_map Replies.InputIs (count_told input)
 told Kinds.Count (count ∷ []) = option_map Replies.Count (count_told count)
 told Kinds.Buf (len ∷ flags ∷ []) = two_told Replies.Buf (count_told len) (flags_told flags)
 told Kinds.Pages (count ∷ []) = option_map Replies.Pages (count_told count)
-told Kinds.Frame (index ∷ used ∷ sequence ∷ timestamp ∷ flags ∷ []) = frame_told index used sequence timestamp flags
-told Kinds.Mapping (address ∷ len ∷ []) = two_told Replies.Mapped (address_told address) (count_told len)
+told Kinds.Frame (index ∷ used ∷ sequence ∷ timestamp ∷ flags ∷ []) =
+    frame_told index used sequence timestamp flags
+told Kinds.Mapping (address ∷ len ∷ []) =
+    two_told Replies.Mapped (address_told address) (count_told len)
 told Kinds.Bytes (bytes ∷ []) = option_map Replies.Bytes (small_told bytes)
 told Kinds.Digest (digest ∷ []) = option_map Replies.Digest (bytes_told 32 digest)
 told Kinds.Event (kind ∷ frame ∷ pending ∷ sequence ∷ []) = event_told kind frame pending sequence
@@ -206,23 +214,27 @@ statement_told words = if list_all is_word words then if_fine (built_statement_i
 
 abbrev pub entry_told : List ℕ → ℕ → List (List ℕ) → Statement → Option Entry
 entry_told name line reply s =
-    if bytes_eq s.handle name then option_map (λ r. Called line s.call r) (reply_told s.call reply) else None
+    if bytes_eq s.handle name then option_map (λ r. Called line s.call r) (reply_told s.call reply)
+    else None
 
 -- a call on the handle of this name, by its line's number, its words, and those of its reply
 abbrev pub call_told : List ℕ → List ℕ → List (List ℕ) → List (List ℕ) → Option Entry
 call_told name line words reply =
-    option_and_then (λ n. option_and_then (entry_told name n reply) (statement_told words)) (count_told line)
+    option_and_then (λ n. option_and_then (entry_told name n reply) (statement_told words))
+    (count_told line)
 
 abbrev pub chain_told : List (List ℕ) → Option RawChain
 chain_told words = if list_all is_word words then raw_in words else None
 
 abbrev pub session_told : List ℕ → Option (Option ℕ)
-session_told word = if bytes_eq word (codes "-") then Some None else option_map Some (count_told word)
+session_told word =
+    if bytes_eq word (codes "-") then Some None else option_map Some (count_told word)
 
 abbrev pub step_named : List ℕ → Option Entry
 step_named word =
     if bytes_eq word (codes "finish") then Some Finish
-    else (if bytes_eq word (codes "bad") then Some Bad else (if bytes_eq word (codes "give") then Some Give else None))
+    else (if bytes_eq word (codes "bad") then Some Bad
+    else (if bytes_eq word (codes "give") then Some Give else None))
 
 -- what stands behind the first word of a line
 abbrev pub step_told : List (List ℕ) → Option Entry
@@ -230,7 +242,8 @@ step_told (word ∷ []) = step_named word
 step_told words = None
 
 abbrev pub fresh : ℕ → List ℕ → Option ℕ → HandleLog
-fresh process name session = record { process = process; name = name; session = session; entries = [] }
+fresh process name session =
+    record { process = process; name = name; session = session; entries = [] }
 
 abbrev pub head_told : List (List ℕ) → Option HandleLog
 head_told (process ∷ name ∷ session ∷ []) =
@@ -244,7 +257,8 @@ process_told words = None
 
 abbrev pub map_told : List (List ℕ) → Option RegionEntry
 map_told (address ∷ pages ∷ count ∷ []) =
-    option_and_then (λ a. two_told (Map a) (count_told pages) (count_told count)) (address_told address)
+    option_and_then (λ a. two_told (Map a) (count_told pages) (count_told count))
+    (address_told address)
 map_told words = None
 
 abbrev pub drop_told : List (List ℕ) → Option RegionEntry
@@ -285,7 +299,8 @@ with_raws d words = option_and_then (λ p. headed d p (RawHead p)) (process_told
 
 -- the log of this handle goes on
 abbrev pub with_entry : Logs → HandleLog → Entry → Draft
-with_entry logs h e = record { logs = logs; place = Log (record h { entries = h.entries ++ e ∷ [] }) }
+with_entry logs h e =
+    record { logs = logs; place = Log (record h { entries = h.entries ++ e ∷ [] }) }
 
 abbrev pub step_at : Logs → Place → List (List ℕ) → Option Draft
 step_at logs (Log h) words = option_map (with_entry logs h) (step_told words)
@@ -298,26 +313,30 @@ with_step d words = step_at d.logs d.place words
 abbrev pub with_raw : Logs → ℕ → ℕ → RawChain → Errno → Draft
 with_raw logs process line chain errno = record {
   logs = record logs {
-    raws = logs.raws ++ record { process = process; line = line; chain = chain; errno = errno } ∷ [];
+    raws = logs.raws ++ record { process = process; line = line; chain = chain; errno = errno } ∷
+        [];
   };
   place = Raws process;
 }
 
 abbrev pub raw_told : Logs → ℕ → List ℕ → List (List ℕ) → List (List ℕ) → Option Draft
 raw_told logs process line words reply =
-    option_and_then (λ n. option_and_then (λ chain. option_map (λ e. with_raw logs process n chain e)
+    option_and_then (λ n. option_and_then
+    (λ chain. option_map (λ e. with_raw logs process n chain e)
     (refusal_told reply)) (chain_told words)) (count_told line)
 
 -- a line with a reply, by its place
 abbrev pub reply_at : Logs → Place → List ℕ → List (List ℕ) → List (List ℕ) → Option Draft
-reply_at logs (Log h) line words reply = option_map (with_entry logs h) (call_told h.name line words reply)
+reply_at logs (Log h) line words reply =
+    option_map (with_entry logs h) (call_told h.name line words reply)
 reply_at logs (RawHead process) line words reply = raw_told logs process line words reply
 reply_at logs (Raws process) line words reply = raw_told logs process line words reply
 reply_at logs place line words reply = None
 
 abbrev pub with_answer : Draft → List ℕ → List (List ℕ) → Option Draft
 with_answer d line words =
-    option_and_then (λ at. reply_at d.logs d.place line (take at words) (drop (at + 1) words)) (last_equals words)
+    option_and_then (λ at. reply_at d.logs d.place line (take at words) (drop (at + 1) words))
+    (last_equals words)
 
 -- the region's head may stand here
 abbrev pub may_end : Place → Bool
@@ -336,11 +355,13 @@ is_region place = false
 
 abbrev pub with_journal : Draft → RegionEntry → Option Draft
 with_journal d e =
-    if is_region d.place then Some (record d { logs = record d.logs { journal = d.logs.journal ++ e ∷ [] } }) else None
+    if is_region d.place then Some
+    (record d { logs = record d.logs { journal = d.logs.journal ++ e ∷ [] } }) else None
 
 abbrev pub wired : Draft → List ℕ → Option Draft
 wired d digest =
-    if is_region d.place then Some (record { logs = record d.logs { wire = digest }; place = Wire }) else None
+    if is_region d.place then Some (record { logs = record d.logs { wire = digest }; place = Wire })
+    else None
 
 abbrev pub with_wire : Draft → List (List ℕ) → Option Draft
 with_wire d words = option_and_then (wired d) (digest_told words)
@@ -378,7 +399,11 @@ with_lines d (line ∷ lines) = option_and_then (λ e. with_lines e lines) (with
 -- ---- texts
 
 abbrev pub nothing : Draft
-nothing = record { logs = record { handles = []; raws = []; journal = []; wire = replicate 32 0 }; place = Opening }
+nothing =
+    record {
+      logs = record { handles = []; raws = []; journal = []; wire = replicate 32 0 };
+      place = Opening;
+    }
 
 abbrev pub finished_at : Logs → Place → Option Logs
 finished_at logs End = Some logs

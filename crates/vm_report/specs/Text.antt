@@ -41,14 +41,16 @@ reply_words (Refused errno) = codes "err" ∷ decimal (errno_number errno) ∷ e
 reply_words (Caps all device) = codes "ok" ∷ flags_text all ∷ flags_text device ∷ []
 reply_words (Code code) = codes "ok" ∷ code_text code ∷ []
 reply_words (Format f line size) =
-    codes "ok" ∷ code_text f.code ∷ decimal f.width ∷ decimal f.height ∷ decimal line ∷ decimal size ∷ []
+    codes "ok" ∷ code_text f.code ∷ decimal f.width ∷ decimal f.height ∷ decimal line ∷
+    decimal size ∷ []
 reply_words (InputName input) = codes "ok" ∷ input_name input ∷ []
 reply_words (InputIs input) = codes "ok" ∷ decimal input ∷ []
 reply_words (Count count) = codes "ok" ∷ decimal count ∷ []
 reply_words (Buf len flags) = codes "ok" ∷ decimal len ∷ flags_text flags ∷ []
 reply_words (Pages count) = codes "ok" ∷ decimal count ∷ []
 reply_words (Frame index used sequence timestamp flags) =
-    codes "ok" ∷ decimal index ∷ decimal used ∷ decimal sequence ∷ decimal timestamp ∷ flags_text flags ∷ []
+    codes "ok" ∷ decimal index ∷ decimal used ∷ decimal sequence ∷ decimal timestamp ∷
+    flags_text flags ∷ []
 reply_words (Mapped address len) = codes "ok" ∷ address_text address ∷ decimal len ∷ []
 reply_words (Bytes bytes) = codes "ok" ∷ encode_lower bytes ∷ []
 reply_words (Digest digest) = codes "ok" ∷ encode_lower digest ∷ []
@@ -62,13 +64,15 @@ reply_text reply = join_with_byte 32 (reply_words reply)
 -- ---- the text
 
 abbrev pub call_text : ℕ → List ℕ → Reply → List ℕ
-call_text line echo reply = decimal line ++ codes " " ++ echo ++ codes " = " ++ reply_text reply ++ codes "\n"
+call_text line echo reply =
+    decimal line ++ codes " " ++ echo ++ codes " = " ++ reply_text reply ++ codes "\n"
 
 -- A log, an entry a line. Each call is printed with the next of these words.
 abbrev pub entries_text : List Entry → List (List ℕ) → List ℕ
 entries_text [] echoes = []
 entries_text (Called line call reply ∷ es) [] = []
-entries_text (Called line call reply ∷ es) (echo ∷ echoes) = call_text line echo reply ++ entries_text es echoes
+entries_text (Called line call reply ∷ es) (echo ∷ echoes) =
+    call_text line echo reply ++ entries_text es echoes
 entries_text (Finish ∷ es) echoes = codes "+ finish\n" ++ entries_text es echoes
 entries_text (Bad ∷ es) echoes = codes "+ bad\n" ++ entries_text es echoes
 entries_text (Give ∷ es) echoes = codes "+ give\n" ++ entries_text es echoes
@@ -79,7 +83,9 @@ session_text None = codes "-"
 session_text (Some id) = decimal id
 
 abbrev pub head_text : HandleLog → List ℕ
-head_text h = codes "handle " ++ decimal h.process ++ codes " " ++ h.name ++ codes " " ++ session_text h.session ++ codes "\n"
+head_text h =
+    codes "handle " ++ decimal h.process ++ codes " " ++ h.name ++ codes " " ++
+    session_text h.session ++ codes "\n"
 
 -- a handle's head and its log, with the words of its calls
 abbrev pub handle_text : HandleLog → List (List ℕ) → List ℕ
@@ -108,14 +114,17 @@ raw_lines_text process (r ∷ rs) (echo ∷ echoes) =
 abbrev pub raws_text : ℕ → List RawLog → List (List ℕ) → List ℕ
 raws_text process raws echoes =
     if list_any (λ r. r.process == process) raws
-    then codes "raws " ++ decimal process ++ codes "\n" ++ raw_lines_text process raws echoes else []
+    then codes "raws " ++ decimal process ++ codes "\n" ++ raw_lines_text process raws echoes
+    else []
 
 -- ---- the region
 
 abbrev pub journal_line : RegionEntry → List ℕ
 journal_line (Map addr pages count) =
-    codes "map " ++ address_text addr ++ codes " " ++ decimal pages ++ codes " " ++ decimal count ++ codes "\n"
-journal_line (Drop addr count) = codes "drop " ++ address_text addr ++ codes " " ++ decimal count ++ codes "\n"
+    codes "map " ++ address_text addr ++ codes " " ++ decimal pages ++ codes " " ++ decimal count ++
+    codes "\n"
+journal_line (Drop addr count) =
+    codes "drop " ++ address_text addr ++ codes " " ++ decimal count ++ codes "\n"
 
 -- ---- the whole text
 
@@ -175,7 +184,8 @@ abbrev pub reads : List ℕ → List Entry → List (List ℕ) → Bool
 reads name [] [] = true
 reads name [] (echo ∷ echoes) = false
 reads name (Called line call reply ∷ es) [] = false
-reads name (Called line call reply ∷ es) (echo ∷ echoes) = reads_as echo name call && is_kind_of call reply && reads name es echoes
+reads name (Called line call reply ∷ es) (echo ∷ echoes) =
+    reads_as echo name call && is_kind_of call reply && reads name es echoes
 reads name (Finish ∷ es) echoes = reads name es echoes
 reads name (Bad ∷ es) echoes = reads name es echoes
 reads name (Give ∷ es) echoes = reads name es echoes
@@ -190,7 +200,8 @@ all_read (h ∷ hs) (echoes ∷ words) = reads h.name h.entries echoes && all_re
 -- logs with them.
 abbrev pub PrintsWith : Words → List ℕ → Logs → Type 0
 PrintsWith words text logs =
-    IsTrue (all_read logs.handles words.calls) × (length words.raws ≡ length logs.raws) × (text ≡ text_of logs words)
+    IsTrue (all_read logs.handles words.calls) × (length words.raws ≡ length logs.raws) ×
+    (text ≡ text_of logs words)
 
 -- the text is that of the logs, with some words that read as their calls
 abbrev pub Prints : List ℕ → Logs → Type 0

@@ -21,7 +21,12 @@ impl Model for HandleLog {
 
     ghost Value = { Told };
 
-    ghost view = { λ h. record { process = h.process; name = h.name; session = h.session; entries = h.entries.items } };
+    ghost view = { λ h. record {
+      process = h.process;
+      name = h.name;
+      session = h.session;
+      entries = h.entries.items;
+    } };
 }
 
 /// What is printed of one raw line.
@@ -42,9 +47,19 @@ impl Model for RawLog {
 
     ghost Value = { Told };
 
-    ghost view = { λ r. record { process = r.process; line = r.line; chain = r.chain; errno = r.errno } };
+    ghost view = { λ r. record {
+      process = r.process;
+      line = r.line;
+      chain = r.chain;
+      errno = r.errno;
+    } };
 
-    ghost inverse = { λ r. record { process = r.process; line = r.line; chain = r.chain; errno = r.errno } };
+    ghost inverse = { λ r. record {
+      process = r.process;
+      line = r.line;
+      chain = r.chain;
+      errno = r.errno;
+    } };
 }
 
 /// What is printed of a run.
@@ -65,5 +80,10 @@ impl Model for Logs {
 
     ghost Value = { Told };
 
-    ghost view = { λ l. record { handles = l.handles.items; raws = l.raws.items; journal = l.journal.items; wire = l.wire } };
+    ghost view = { λ l. record {
+      handles = l.handles.items;
+      raws = l.raws.items;
+      journal = l.journal.items;
+      wire = l.wire;
+    } };
 }

@@ -48,18 +48,23 @@ pub record CanStart (handles : List HandleState) (a : Asked) : Type 0 where
   pub more : (handle_in handles a.handle).begun < (handle_in handles a.handle).lines
   pub usual : IsUsual (way_from (handle_in handles a.handle) a.call)
 
--- A call on a handle is begun: what crosses stands in the chain, and what the driver answers itself is answered.
-abbrev pub Starts : Way → Asked → List HandleState → Parcel → Bool → List HandleState → Parcel → Type 0
+-- A call on a handle is begun: what crosses stands in the chain, and what the driver answers itself
+-- is answered.
+abbrev pub Starts : Way → Asked → List HandleState → Parcel → Bool → List HandleState → Parcel →
+    Type 0
 Starts (Crosses c) a handles chain crosses handles' chain' =
-    (crosses ≡ true) × (handles' ≡ handles_sent handles a) × ((p : ℕ) → IsChain p chain → Carries p c chain')
+    (crosses ≡ true) × (handles' ≡ handles_sent handles a) ×
+    ((p : ℕ) → IsChain p chain → Carries p c chain')
 Starts AnsweredHere a handles chain crosses handles' chain' =
     (crosses ≡ false) × (handles' ≡ handles_answered handles a) × (chain' ≡ chain)
 Starts Waits a handles chain crosses handles' chain' = ⊥
 Starts TouchesMemory a handles chain crosses handles' chain' = ⊥
 Starts NotBuilt a handles chain crosses handles' chain' = ⊥
 
--- What came back can be logged: it is a response to the command, which the call that is out may have.
-pub record CanLog (handles : List HandleState) (a : Asked) (c : Command) (f : Finished) : Type 0 where
+-- What came back can be logged: it is a response to the command, which the call that is out may
+-- have.
+pub record CanLog (handles : List HandleState) (a : Asked) (c : Command)
+    (f : Finished) : Type 0 where
   pub within : a.handle < length handles
   pub out : (handle_in handles a.handle).sent ≡ Some (record { line = a.line; call = a.call })
   pub chain : (p : ℕ) × IsChain p f.parcel
@@ -75,5 +80,6 @@ CanReply (Some c) handles a f = CanLog handles a c f
 abbrev pub Logs : Option Command → List HandleState → Asked → List ℕ → List HandleState → Type 0
 Logs None handles a bytes handles' = ⊥
 Logs (Some c) handles a bytes handles' =
-    (reply : Reply) → IsAnswer (local_of (handle_in handles a.handle)) a.line a.call (response_of c bytes) reply
+    (reply : Reply) → IsAnswer (local_of (handle_in handles a.handle)) a.line a.call
+    (response_of c bytes) reply
     → handles' ≡ handles_replied handles a reply (response_of c bytes)

@@ -19,7 +19,8 @@ reply_page p = 17 + 2 * p
 abbrev pub reply_room : ℕ
 reply_room = 304
 
--- a command of so many bytes at the front of the one page, and room for its reply at the front of the other
+-- a command of so many bytes at the front of the one page, and room for its reply at the front of
+-- the other
 abbrev pub chain_table : ℕ → ℕ → List Desc
 chain_table p len =
     record { addr = command_page p * 4096; len = len; flags = 1; next = 1 }
@@ -28,7 +29,9 @@ chain_table p len =
 
 -- the two pages of a process, with these bytes
 abbrev pub chain_pages : ℕ → List ℕ → List ℕ → List Page
-chain_pages p command reply = record { number = command_page p; bytes = command } ∷ record { number = reply_page p; bytes = reply } ∷ []
+chain_pages p command reply =
+    record { number = command_page p; bytes = command } ∷
+    record { number = reply_page p; bytes = reply } ∷ []
 
 -- the parcel of a process's chain, with a command of so many bytes, and the bytes of its two pages
 abbrev pub chain_of : ℕ → ℕ → List ℕ → List ℕ → ℕ → Parcel
@@ -75,10 +78,12 @@ no_desc = record { addr = 0; len = 0; flags = 0; next = 0 }
 abbrev pub with_front : Page → List ℕ → Page
 with_front page bytes = record page { bytes = bytes ++ drop (length bytes) page.bytes }
 
--- the parcel with these bytes at the front of its first page, and their number in its first descriptor
+-- the parcel with these bytes at the front of its first page, and their number in its first
+-- descriptor
 abbrev pub with_command : Parcel → List ℕ → Parcel
 with_command parcel bytes = record parcel {
-  table = slice_set parcel.table 0 (record (slice_index_or parcel.table 0 no_desc) { len = length bytes });
+  table = slice_set parcel.table 0
+      (record (slice_index_or parcel.table 0 no_desc) { len = length bytes });
   pages = slice_set parcel.pages 0 (with_front (slice_index_or parcel.pages 0 no_page) bytes);
 }
 

@@ -39,7 +39,8 @@ with_process g n p = record g { processes = slice_set g.processes n p }
 
 -- the handle in a place of a process's, if there is one
 abbrev pub handle_named : GuestState → ℕ → ℕ → Option HandleState
-handle_named g n k = option_and_then (λ (p : ProcessState). slice_get p.handles k) (slice_get g.processes n)
+handle_named g n k =
+    option_and_then (λ (p : ProcessState). slice_get p.handles k) (slice_get g.processes n)
 
 abbrev pub no_lines : ProcessLines
 no_lines = record { handles = []; lines = [] }
@@ -62,13 +63,15 @@ pub record IsDriver (script : ScriptLines) (g : GuestState) : Type 0 where
   pub count : length g.processes ≡ length script.processes
   pub few : length g.processes ≤ process_limit
   pub numbered : (n : ℕ) → n < length g.processes → (process_at g n).number ≡ n
-  pub orderly : (n : ℕ) → n < length g.processes → IsOrderly script.model (lines_at script n) (process_at g n)
+  pub orderly : (n : ℕ) → n < length g.processes →
+      IsOrderly script.model (lines_at script n) (process_at g n)
 
 -- the driver before the first line
 pub record IsFreshGuest (script : ScriptLines) (g : GuestState) : Type 0 where
   pub model : g.model ≡ script.model
   pub count : length g.processes ≡ length script.processes
-  pub fresh : (n : ℕ) → n < length g.processes → IsFresh script.model n (lines_at script n) (process_at g n)
+  pub fresh : (n : ℕ) → n < length g.processes →
+      IsFresh script.model n (lines_at script n) (process_at g n)
 
 -- every statement of every process is answered
 abbrev pub IsDone : GuestState → Type 0
@@ -85,14 +88,15 @@ pub record Posting : Type 0 where
   pub guest : GuestState
   pub posts : List Request
 
--- What is asked is begun in this way: its command is posted, or the driver answers it itself. No call that is built waits,
--- and one that touches a memory's bytes is no call to begin.
+-- What is asked is begun in this way: its command is posted, or the driver answers it itself. No
+-- call that is built waits, and one that touches a memory's bytes is no call to begin.
 abbrev pub begins : GuestState → ℕ → Asked → Way → Option Posting
 begins g n a (Crosses c) = Some (record {
   guest = with_process g n (sent (process_at g n) a);
   posts = record { who = n; asks = Judged (Ok c) } ∷ [];
 })
-begins g n a AnsweredHere = Some (record { guest = with_process g n (answered_here (process_at g n) a); posts = [] })
+begins g n a AnsweredHere =
+    Some (record { guest = with_process g n (answered_here (process_at g n) a); posts = [] })
 begins g n a Waits = None
 begins g n a TouchesMemory = None
 begins g n a NotBuilt = None
@@ -117,7 +121,8 @@ pub record Collected (g : GuestState) (r : Reply) (g' : GuestState) : Type 0 whe
 -- ---- both over the link
 
 -- One process begins its next statement, and the others stay.
-pub record IssuesAt (n : ℕ) (g : GuestState) (queues : Queues) (turn : Turn) (g' : GuestState) (queues' : Queues) : Type 0 where
+pub record IssuesAt (n : ℕ) (g : GuestState) (queues : Queues) (turn : Turn) (g' : GuestState)
+    (queues' : Queues) : Type 0 where
   pub process : ProcessState
   pub issues : Issues (next (process_at g n)) (process_at g n) queues turn process queues'
   pub after : g' ≡ with_process g n process
@@ -132,4 +137,5 @@ abbrev pub IsReply : List DoneChain → GuestState → Type 0
 IsReply [] g = Unit {0}
 IsReply (d ∷ ds) g =
     (d.finished.parcel.who < length g.processes)
-    × IsReplyTo (crossing (process_at g d.finished.parcel.who)) (process_at g d.finished.parcel.who) d.finished
+    × IsReplyTo (crossing (process_at g d.finished.parcel.who))
+    (process_at g d.finished.parcel.who) d.finished

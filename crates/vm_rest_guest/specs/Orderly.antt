@@ -1,4 +1,5 @@
--- What holds of the driver between steps: each handle's log is legal, and answers just the lines so far.
+-- What holds of the driver between steps: each handle's log is legal, and answers just the lines so
+-- far.
 use Rattle.std.specs.Prelude.{ℕ, ◌≡◌, ◌<◌, ◌≤◌, Bool, true, ◌==◌, List, length, take, is_some, Option, Some, None, slice_index_or, if◌then◌else◌}
 use Rattle.v4l_const.specs.declared.model.Model.{Model}
 use Rattle.vm_local.specs.Log.{IsLegal}
@@ -12,9 +13,10 @@ use Rattle.vm_rest_guest.specs.declared.asked.Asked.{Asked}
 use Rattle.vm_rest_guest.specs.Asking.{statements_of}
 use Rattle.vm_rest_guest.specs.Process.{ProcessState, begun, crossing, handle_in, crosses_by}
 
--- A handle's log is legal and answers just the answered lines on it; it counts the lines on it that were begun, and has
--- room for all of them.
-pub record AnswersLines (device : Model) (all started answered : List Line) (h : ℕ) (handle : HandleState) : Type 0 where
+-- A handle's log is legal and answers just the answered lines on it; it counts the lines on it that
+-- were begun, and has room for all of them.
+pub record AnswersLines (device : Model) (all started answered : List Line) (h : ℕ)
+    (handle : HandleState) : Type 0 where
   pub model : handle.model ≡ device
   pub legal : IsLegal handle.model handle.entries
   pub session : is_some handle.session ≡ has_opened handle.entries
@@ -39,7 +41,8 @@ pub record IsOrderly (model : Model) (lines : ProcessLines) (p : ProcessState) :
   pub named : length p.handles ≡ length lines.handles
   pub within : begun p ≤ length lines.lines
   pub each : (h : ℕ) → h < length p.handles
-      → AnswersLines model lines.lines (take (begun p) lines.lines) (take p.answered lines.lines) h (handle_in p.handles h)
+      → AnswersLines model lines.lines (take (begun p) lines.lines) (take p.answered lines.lines) h
+      (handle_in p.handles h)
   -- just the handle of the statement that is on its way has a call out
   pub out : (h : ℕ) → h < length p.handles → (handle_in p.handles h).sent ≡ out_on h (crossing p)
   pub crosses : Crosses p (crossing p)

@@ -1,4 +1,5 @@
--- One process of the driver: its handles, how far its lines have come, and what a line's beginning and its answer do.
+-- One process of the driver: its handles, how far its lines have come, and what a line's beginning
+-- and its answer do.
 use Rattle.std.specs.Prelude.{ℕ, ◌≡◌, ◌+◌, ◌<◌, ◌≤◌, Bool, true, false, ◌&&◌, ◌==◌, List, Option, Some, None, is_some, length, slice_index_or, slice_set, if◌then◌else◌}
 use Rattle.v4l_const.specs.declared.model.Model.{Model}
 use Rattle.v4l_const.specs.declared.model.Model.TheVariants.{Capture}
@@ -25,8 +26,8 @@ use Rattle.vm_rest_guest.specs.declared.status.Status.TheVariants.{AtRest, Cross
 use Rattle.vm_rest_guest.specs.Asking.{asked_at, statements_of}
 use Rattle.vm_rest_guest.specs.Chain.{IsChain, Carries, reply_bytes}
 
--- The process's number, its statements and handles, how many of its statements are answered, and what the process does:
--- it is at rest, or its next statement was begun and is on its way.
+-- The process's number, its statements and handles, how many of its statements are answered, and
+-- what the process does: it is at rest, or its next statement was begun and is on its way.
 pub record ProcessState : Type 0 where
   pub number : ℕ
   pub statements : List Statement
@@ -50,7 +51,8 @@ begun p = begun_by p.status p.answered
 abbrev pub current : ProcessState → Option Asked
 current p = asked_at p.statements p.answered
 
--- what is asked, where it is begun at once: a call that touches a memory's bytes takes a lease instead
+-- what is asked, where it is begun at once: a call that touches a memory's bytes takes a lease
+-- instead
 abbrev pub issuing : Option Asked → Option Asked
 issuing None = None
 issuing (Some a) = if touches_memory a.call then None else Some a
@@ -103,7 +105,8 @@ with_handle handles a handle = slice_set handles a.handle handle
 
 -- the call that is asked is out
 abbrev pub handles_sent : List HandleState → Asked → List HandleState
-handles_sent handles a = with_handle handles a (with_sent (with_line (handle_in handles a.handle)) a.line a.call)
+handles_sent handles a =
+    with_handle handles a (with_sent (with_line (handle_in handles a.handle)) a.line a.call)
 
 -- a handle that answers what is asked without the device
 abbrev pub with_answer : HandleState → Asked → HandleState
@@ -127,8 +130,9 @@ sent p a = record p { handles = handles_sent p.handles a; status = Crossing }
 abbrev pub answered_here : ProcessState → Asked → ProcessState
 answered_here p a = record p { handles = handles_answered p.handles a; answered = p.answered + 1 }
 
--- What is asked is begun: what crosses is posted, in the process's chain, and what the driver answers itself is answered.
--- No call that is built waits; one that touches a memory's bytes is no call to begin.
+-- What is asked is begun: what crosses is posted, in the process's chain, and what the driver
+-- answers itself is answered. No call that is built waits; one that touches a memory's bytes is no
+-- call to begin.
 abbrev pub Begins : Way → Asked → ProcessState → Queues → ProcessState → Queues → Type 0
 Begins (Crosses c) a p queues p' queues' =
     (parcel : Parcel) × Carries p.number c parcel × (p' ≡ sent p a)
@@ -157,9 +161,14 @@ CanPost (Some a) p q = HasRoomFor (crosses_by p a) q
 -- it has this reply
 abbrev pub replied : ProcessState → Asked → Reply → Response → ProcessState
 replied p a reply response =
-    record p { handles = handles_replied p.handles a reply response; answered = p.answered + 1; status = AtRest }
+    record p {
+      handles = handles_replied p.handles a reply response;
+      answered = p.answered + 1;
+      status = AtRest;
+    }
 
--- What came back is in the process's chain, and is a response to the command, which the handle's call may have.
+-- What came back is in the process's chain, and is a response to the command, which the handle's
+-- call may have.
 pub record Replies (p : ProcessState) (a : Asked) (c : Command) (f : Finished) : Type 0 where
   pub chain : IsChain p.number f.parcel
   pub fits : f.used ≤ 4096
@@ -175,12 +184,15 @@ abbrev pub IsReplyTo : Option Asked → ProcessState → Finished → Type 0
 IsReplyTo None p f = ⊥
 IsReplyTo (Some a) p f = RepliesTo (crosses_by p a) a p f
 
--- These bytes answer what is asked: they are long enough for a response to the command, the call may have a reply for
--- which it stands, and the process is as each such reply leaves it; there is one alone.
-pub record Answered (p : ProcessState) (a : Asked) (c : Command) (bytes : List ℕ) (p' : ProcessState) : Type 0 where
+-- These bytes answer what is asked: they are long enough for a response to the command, the call
+-- may have a reply for which it stands, and the process is as each such reply leaves it; there is
+-- one alone.
+pub record Answered (p : ProcessState) (a : Asked) (c : Command) (bytes : List ℕ)
+    (p' : ProcessState) : Type 0 where
   pub enough : response_len c bytes ≤ length bytes
   pub may : MayAnswer (handle_at p a.handle) a.line a.call (response_of c bytes)
-  pub after : (reply : Reply) → IsAnswer (local_of (handle_at p a.handle)) a.line a.call (response_of c bytes) reply
+  pub after : (reply : Reply) →
+      IsAnswer (local_of (handle_at p a.handle)) a.line a.call (response_of c bytes) reply
       → p' ≡ replied p a reply (response_of c bytes)
 
 -- The statement that is on its way is answered by these bytes.

@@ -50,14 +50,21 @@ impl Model for Caller {
 
     ghost Value = { ProcessState };
 
-    ghost view = { λ c. record { number = c.number; statements = c.statements.items; handles = c.handles.items; answered = c.answered; status = c.status } };
+    ghost view = { λ c. record {
+      number = c.number;
+      statements = c.statements.items;
+      handles = c.handles.items;
+      answered = c.answered;
+      status = c.status;
+    } };
 
     ghost invariant = { λ c. HasChain c.number c.status c.chain };
 }
 
 // Counts a line at the handle that it is on.
 fn count_line(counts: &mut Vec<u32>, what: &LineKind)
-    requires { (h : ℕ) → h < length counts.old.items → slice_index_or counts.old.items h 0 < 2 ^ 31 }
+    requires { (h : ℕ) → h < length counts.old.items →
+        slice_index_or counts.old.items h 0 < 2 ^ 31 }
     ensures { counts.new.items ≡ counted counts.old.items what.now }
 {
     if let LineKind::OnHandle { h, .. } = *what {
@@ -72,7 +79,8 @@ fn count_line(counts: &mut Vec<u32>, what: &LineKind)
 fn count_lines(alloc: Global, lines: &[Line], handles: usize) -> Result<Vec<u32>, Memory>
     requires { length lines.now < 2 ^ 30 }
     ensures count { IfOk result (λ v. length v.items ≡ handles) }
-    ensures lines { IfOk result (λ v. (h : ℕ) → h < handles → slice_index_or v.items h 0 ≡ length (lines_of h lines.now)) }
+    ensures lines { IfOk result (λ v. (h : ℕ) → h < handles →
+        slice_index_or v.items h 0 ≡ length (lines_of h lines.now)) }
 {
     let mut counts = vec![in alloc; 0; handles].map_err(|_| Memory)?;
     for line in lines {
@@ -85,7 +93,8 @@ fn count_lines(alloc: Global, lines: &[Line], handles: usize) -> Result<Vec<u32>
 fn make_handles(alloc: Global, model: DeviceModel, process: &Process) -> Result<Vec<Handle>, Memory>
     requires { IsReadProcess process.now }
     ensures count { IfOk result (λ v. length v.items ≡ length process.now.handles) }
-    ensures fresh { IfOk result (λ v. (h : ℕ) → h < length v.items → handle_in v.items h ≡ fresh_at model process.now h) }
+    ensures fresh { IfOk result (λ v. (h : ℕ) → h < length v.items →
+        handle_in v.items h ≡ fresh_at model process.now h) }
 {
     let counts = count_lines(alloc, &process.lines, process.handles.len())?;
     let mut handles = Vec::new(alloc);
@@ -112,7 +121,8 @@ fn make_statements(alloc: Global, lines: &[Line]) -> Result<Vec<Statement>, Memo
     Ok(statements)
 }
 
-// What is asked, where it is begun at once: a call that touches a memory's bytes takes a lease instead.
+// What is asked, where it is begun at once: a call that touches a memory's bytes takes a lease
+// instead.
 fn issuing(asked: Option<Asked>) -> Option<Asked>
     ensures { result ≡ issuing asked }
 {
@@ -129,7 +139,9 @@ fn start_call(handle: &mut Handle, asked: &Asked, command: &mut [u8], chain: &mu
     requires usual { touches_memory asked.now.call ≡ false }
     requires room { 4096 ≤ length command.old }
     requires chain { (p : ℕ) × IsChain p chain.old }
-    ensures starts { StartsCall (way_from handle.old asked.now.call) handle.old asked.now.line asked.now.call command.old result handle.new command.new }
+    ensures starts { StartsCall
+        (way_from handle.old asked.now.call) handle.old asked.now.line asked.now.call command.old
+        result handle.new command.new }
     ensures chain { chain.new ≡ chain.old }
 {
     handle.start(asked.line, &asked.call, command, &mut chain.held)
@@ -137,9 +149,12 @@ fn start_call(handle: &mut Handle, asked: &Asked, command: &mut [u8], chain: &mu
 
 // Logs a call that is out on its handle.
 fn log_reply(handle: &mut Handle, asked: &Asked, response: &Response, done: &mut Finished)
-    requires out { handle.old.sent ≡ Some (record { line = asked.now.line; call = asked.now.call }) }
+    requires out { handle.old.sent ≡
+        Some (record { line = asked.now.line; call = asked.now.call }) }
     requires answer { MayAnswer handle.old asked.now.line asked.now.call response.now }
-    ensures replied { (reply : Reply) → IsAnswer (local_of handle.old) asked.now.line asked.now.call response.now reply → handle.new ≡ with_reply handle.old asked.now.line asked.now.call reply response.now }
+    ensures replied { (reply : Reply) → IsAnswer
+        (local_of handle.old) asked.now.line asked.now.call response.now reply →
+        handle.new ≡ with_reply handle.old asked.now.line asked.now.call reply response.now }
     ensures done { done.new ≡ done.old }
 {
     handle.reply(asked.line, &asked.call, response, &mut done.parcel.held);
@@ -149,7 +164,8 @@ fn log_reply(handle: &mut Handle, asked: &Asked, response: &Response, done: &mut
 fn start(handles: &mut Vec<Handle>, asked: &Asked, chain: &mut Parcel) -> bool
     requires can { CanStart handles.old.items asked.now }
     requires chain { (p : ℕ) × IsChain p chain.old }
-    ensures { Starts (way_in handles.old.items asked.now) asked.now handles.old.items chain.old result handles.new.items chain.new }
+    ensures { Starts (way_in handles.old.items asked.now) asked.now handles.old.items chain.old
+        result handles.new.items chain.new }
 {
     let mut command = [0; COMMAND_ROOM];
     let handle = &mut handles[asked.handle as usize];
@@ -164,8 +180,10 @@ fn start(handles: &mut Vec<Handle>, asked: &Asked, chain: &mut Parcel) -> bool
 
 // Logs a call with the reply that came back.
 fn answer(handles: &mut Vec<Handle>, asked: &Asked, done: &mut Finished)
-    requires { CanReply (crosses_in handles.old.items asked.now) handles.old.items asked.now done.old }
-    ensures handles { Logs (crosses_in handles.old.items asked.now) handles.old.items asked.now (reply_bytes done.old) handles.new.items }
+    requires { CanReply (crosses_in handles.old.items asked.now) handles.old.items asked.now
+        done.old }
+    ensures handles { Logs (crosses_in handles.old.items asked.now) handles.old.items asked.now
+        (reply_bytes done.old) handles.new.items }
     ensures done { done.new ≡ done.old }
 {
     let handle = &mut handles[asked.handle as usize];
@@ -206,7 +224,8 @@ impl Caller {
         self.status == Status::AtRest && self.answered == self.statements.len()
     }
 
-    /// Whether the next statement may be begun: there is one, none is on its way, and it touches no memory's bytes.
+    /// Whether the next statement may be begun: there is one, none is on its way, and it touches no
+    /// memory's bytes.
     pub fn can_issue(&self) -> bool
         ensures { result ≡ can_issue self.now }
     {
@@ -214,11 +233,13 @@ impl Caller {
             && issuing(asked_at(&self.statements, self.answered)).is_some()
     }
 
-    /// Begins the next statement. `Idle` exactly where there is none, one is on its way, or it touches a memory's bytes.
+    /// Begins the next statement. `Idle` exactly where there is none, one is on its way, or it
+    /// touches a memory's bytes.
     pub fn issue<L: Link>(&mut self, link: &mut L) -> Turn
         requires orderly { (m : AnyModel) × (lines : ProcessLines) × IsOrderly m lines self.old }
         requires room { CanPost (next self.old) self.old (queue_at Commands (L.queues link.old)) }
-        ensures issues { Issues (next self.old) self.old (L.queues link.old) result self.new (L.queues link.new) }
+        ensures issues { Issues (next self.old) self.old (L.queues link.old) result self.new
+            (L.queues link.new) }
     {
         if self.status != Status::AtRest {
             return Turn::Idle;

@@ -1,4 +1,5 @@
-//! The chain of a process: two descriptors, for a command and for its reply, each in a page of its own.
+//! The chain of a process: two descriptors, for a command and for its reply, each in a page of its
+//! own.
 
 ghost use Rattle.std.specs.Prelude.{◌≡◌, ◌≤◌, ℕ, IfOk, length, replicate};
 ghost use Rattle.vm_rest_guest.specs.Chain.{IsChain, with_front, with_command, chain_table, chain_pages, command_page, reply_page, reply_bytes};
@@ -57,7 +58,8 @@ fn make_table(alloc: Global, process: u16) -> Result<Vec<Desc>, Memory>
 
 // The two pages, of zeros.
 fn make_pages(alloc: Global, process: u16) -> Result<Vec<Page>, Memory>
-    ensures { IfOk result (λ pages. pages.items ≡ chain_pages process (replicate 4096 0) (replicate 4096 0)) }
+    ensures { IfOk result (λ pages. pages.items ≡
+        chain_pages process (replicate 4096 0) (replicate 4096 0)) }
 {
     let mut pages = Vec::with_capacity(alloc, 2)?;
     pages.push_reserved(Page::make_zero(alloc, command_page(process))?);

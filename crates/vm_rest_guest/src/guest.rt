@@ -32,7 +32,8 @@ impl Model for Guest {
 
     ghost view = { λ g. record { model = g.model; processes = g.callers.items } };
 
-    ghost invariant = { λ g. (script : ScriptLines) × IsDriver script (record { model = g.model; processes = g.callers.items }) };
+    ghost invariant = { λ g. (script : ScriptLines) ×
+        IsDriver script (record { model = g.model; processes = g.callers.items }) };
 }
 
 // Whether every statement of these processes is answered.
@@ -115,12 +116,15 @@ impl Guest {
         may_issue(&self.callers, p as usize)
     }
 
-    /// A process begins its next line: its call is answered and logged here, or its command is posted. `Idle` exactly
-    /// where there is no such line, or one is on its way.
+    /// A process begins its next line: its call is answered and logged here, or its command is
+    /// posted. `Idle` exactly where there is no such line, or one is on its way.
     pub fn issue<L: Link>(&mut self, link: &mut L, p: u32) -> Turn
-        requires { CanPost (next (process_at self.old p)) (process_at self.old p) (queue_at Commands (L.queues link.old)) }
-        ensures issues { IssuesAt p self.old (L.queues link.old) result self.new (L.queues link.new) }
-        ensures driver { (script : ScriptLines) → IsDriver script self.old → IsDriver script self.new }
+        requires { CanPost (next (process_at self.old p)) (process_at self.old p)
+            (queue_at Commands (L.queues link.old)) }
+        ensures issues { IssuesAt p self.old (L.queues link.old) result self.new
+            (L.queues link.new) }
+        ensures driver { (script : ScriptLines) → IsDriver script self.old →
+            IsDriver script self.new }
     {
         let at = p as usize;
         if at >= self.callers.len() {
@@ -130,12 +134,16 @@ impl Guest {
         caller.issue(link)
     }
 
-    /// Collects the reply that came back first, and logs the call that it answers. `Idle` exactly where none did.
+    /// Collects the reply that came back first, and logs the call that it answers. `Idle` exactly
+    /// where none did.
     pub fn collect<L: Link>(&mut self, link: &mut L) -> Turn
         requires { IsReply (queue_at Commands (L.queues link.old)).done self.old }
-        ensures collects { Collects (queue_at Commands (L.queues link.old)).done self.old result self.new }
-        ensures queues { L.queues link.new ≡ with_queue Commands (collected (queue_at Commands (L.queues link.old))) (L.queues link.old) }
-        ensures driver { (script : ScriptLines) → IsDriver script self.old → IsDriver script self.new }
+        ensures collects { Collects (queue_at Commands
+            (L.queues link.old)).done self.old result self.new }
+        ensures queues { L.queues link.new ≡ with_queue Commands
+            (collected (queue_at Commands (L.queues link.old))) (L.queues link.old) }
+        ensures driver { (script : ScriptLines) → IsDriver script self.old →
+            IsDriver script self.new }
     {
         let Some(done) = link.collect(QueueId::Command) else {
             return Turn::Idle;
@@ -165,7 +173,8 @@ impl Guest {
         }
     }
 
-    /// The handle in place `k` of a process's, in the order of their `open` lines. `None` exactly where there is none.
+    /// The handle in place `k` of a process's, in the order of their `open` lines. `None` exactly
+    /// where there is none.
     pub fn handle(&self, p: u32, k: u32) -> Option<&Handle>
         ensures { option_map (λ h. h.now) result ≡ handle_named self.now p k }
     {
@@ -175,9 +184,11 @@ impl Guest {
         }
     }
 
-    /// The handles of a process, in the order of their `open` lines. `None` exactly where there is no such process.
+    /// The handles of a process, in the order of their `open` lines. `None` exactly where there is
+    /// no such process.
     pub fn handles(&self, p: u32) -> Option<&[Handle]>
-        ensures { option_map (λ hs. hs.now) result ≡ option_map (λ q. q.handles) (slice_get self.now.processes p) }
+        ensures { option_map (λ hs. hs.now) result ≡
+            option_map (λ q. q.handles) (slice_get self.now.processes p) }
     {
         match caller_at(&self.callers, p as usize) {
             Some(caller) => Some(caller.handles()),

@@ -1,7 +1,8 @@
-//! The driver: processes that make calls on their handles. It begins their statements, posts what crosses to the device,
-//! and answers them with what comes back.
+//! The driver: processes that make calls on their handles. It begins their statements, posts what
+//! crosses to the device, and answers them with what comes back.
 //!
-//! Begin with `Guest`. Its main definition is the driver's part of each step, in `specs/Guest.antt`.
+//! Begin with `Guest`. Its main definition is the driver's part of each step, in
+//! `specs/Guest.antt`.
 #![tactic(auto)]
 
 mod asked;

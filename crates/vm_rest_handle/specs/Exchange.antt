@@ -31,13 +31,20 @@ from_open s way = if s.opened then way else AnsweredHere
 abbrev pub way_of : ℕ → LocalState → Call → Way
 way_of session s (OpenHandle nonblock) = Crosses OpenSession
 way_of session s CloseHandle = from_open s (Crosses (CloseSession session))
-way_of session s QueryCap = from_open s (Crosses (Ioctl session QueryCapCode (replicate (payload_size QueryCapCode) 0)))
-way_of session s (EnumFmt t i) = from_open s (Crosses (Ioctl session EnumFmtCode (fmtdesc_bytes (fmt_desc_request t i))))
-way_of session s (GFmt t) = from_open s (Crosses (Ioctl session GFmtCode (format_bytes (format_type_request t))))
-way_of session s (TryFmt t f w h) = from_open s (Crosses (Ioctl session TryFmtCode (format_bytes (format_request t f w h))))
-way_of session s (SFmt t f w h) = from_open s (Crosses (Ioctl session SFmtCode (format_bytes (format_request t f w h))))
-way_of session s (EnumInput i) = from_open s (Crosses (Ioctl session EnumInputCode (input_bytes (input_request i))))
-way_of session s GInput = from_open s (Crosses (Ioctl session GInputCode (replicate (payload_size GInputCode) 0)))
+way_of session s QueryCap =
+    from_open s (Crosses (Ioctl session QueryCapCode (replicate (payload_size QueryCapCode) 0)))
+way_of session s (EnumFmt t i) =
+    from_open s (Crosses (Ioctl session EnumFmtCode (fmtdesc_bytes (fmt_desc_request t i))))
+way_of session s (GFmt t) =
+    from_open s (Crosses (Ioctl session GFmtCode (format_bytes (format_type_request t))))
+way_of session s (TryFmt t f w h) =
+    from_open s (Crosses (Ioctl session TryFmtCode (format_bytes (format_request t f w h))))
+way_of session s (SFmt t f w h) =
+    from_open s (Crosses (Ioctl session SFmtCode (format_bytes (format_request t f w h))))
+way_of session s (EnumInput i) =
+    from_open s (Crosses (Ioctl session EnumInputCode (input_bytes (input_request i))))
+way_of session s GInput =
+    from_open s (Crosses (Ioctl session GInputCode (replicate (payload_size GInputCode) 0)))
 way_of session s (SInput i) = from_open s (Crosses (Ioctl session SInputCode (le i)))
 way_of session s (ReqBufs t m n) = from_open s NotBuilt
 way_of session s (QueryBuf t i) = from_open s NotBuilt
@@ -94,30 +101,35 @@ crossing Waits = None
 crossing TouchesMemory = None
 crossing NotBuilt = None
 
--- the command by which a call crosses, from a handle in this state with this session; none where it doesn't cross
+-- the command by which a call crosses, from a handle in this state with this session; none where it
+-- doesn't cross
 abbrev pub command_of : ℕ → LocalState → Call → Option Command
 command_of session s call = crossing (way_of session s call)
 
--- what stands for a reply of another kind than the call's, and for that of a call which isn't built: it has no meaning
+-- what stands for a reply of another kind than the call's, and for that of a call which isn't
+-- built: it has no meaning
 abbrev pub no_response : Response
 no_response = Closed
 
--- The device's reply to a call that crosses from this state and is answered so; an open gets the session
--- with this id.
+-- The device's reply to a call that crosses from this state and is answered so; an open gets the
+-- session with this id.
 abbrev pub response_to : ℕ → LocalState → Call → Reply → Response
 response_to session s call (Refused errno) = Denied (errno_number errno)
 response_to session s (OpenHandle nonblock) Done = Opened session
 response_to session s (OpenHandle nonblock) reply = no_response
 response_to session s CloseHandle reply = Closed
-response_to session s QueryCap (Caps all device) = Answered (capability_bytes (capability_of s.model))
+response_to session s QueryCap (Caps all device) =
+    Answered (capability_bytes (capability_of s.model))
 response_to session s QueryCap reply = no_response
 response_to session s (EnumFmt t i) (Code f) = Answered (fmtdesc_bytes (fmt_desc_answer t i f))
 response_to session s (EnumFmt t i) reply = no_response
 response_to session s (GFmt t) (Format f line size) = Answered (format_bytes (format_answer t f))
 response_to session s (GFmt t) reply = no_response
-response_to session s (TryFmt t code w h) (Format f line size) = Answered (format_bytes (format_answer t f))
+response_to session s (TryFmt t code w h) (Format f line size) =
+    Answered (format_bytes (format_answer t f))
 response_to session s (TryFmt t code w h) reply = no_response
-response_to session s (SFmt t code w h) (Format f line size) = Answered (format_bytes (format_answer t f))
+response_to session s (SFmt t code w h) (Format f line size) =
+    Answered (format_bytes (format_answer t f))
 response_to session s (SFmt t code w h) reply = no_response
 response_to session s (EnumInput i) (InputName n) = Answered (input_bytes (input_answer n))
 response_to session s (EnumInput i) reply = no_response
@@ -148,7 +160,8 @@ abbrev pub reply_by : Option Errno → Reply → Reply
 reply_by None reply = reply
 reply_by (Some errno) reply = Refused errno
 
--- The reply that a line's call has from this state where it is answered without the device: the first refusal of its
--- row that applies, or else the row's reply.
+-- The reply that a line's call has from this state where it is answered without the device: the
+-- first refusal of its row that applies, or else the row's reply.
 abbrev pub answer_here : LocalState → ℕ → Call → Reply
-answer_here s line call = reply_by (first_refusal (row_of s line 0 call).refusals) (row_of s line 0 call).reply
+answer_here s line call =
+    reply_by (first_refusal (row_of s line 0 call).refusals) (row_of s line 0 call).reply

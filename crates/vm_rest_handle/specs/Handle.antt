@@ -22,8 +22,8 @@ use Rattle.vm_rest_handle.specs.declared.way.Way.TheVariants.{Crosses, AnsweredH
 use Rattle.vm_rest_handle.specs.Exchange.{way_of, command_of, response_to, answer_here}
 use Rattle.vm_rest_handle.specs.Record.{RecordState, recorded}
 
--- The model, the log, the session's id where an open was answered ok, for how many lines there is room, how many were
--- begun, and the call that is out: sent and not answered.
+-- The model, the log, the session's id where an open was answered ok, for how many lines there is
+-- room, how many were begun, and the call that is out: sent and not answered.
 pub record HandleState : Type 0 where
   pub model : Model
   pub entries : List Entry
@@ -65,9 +65,10 @@ has_opened log = list_any opens_session log
 
 -- ---- what a handle's fields keep
 
--- They keep of its log that it is legal, that the record shows the state that it leads to, and that there is a session where
--- an open was answered ok.
-pub record Keeps (m : Model) (log : List Entry) (kept : RecordState) (has_session : Bool) : Type 0 where
+-- They keep of its log that it is legal, that the record shows the state that it leads to, and that
+-- there is a session where an open was answered ok.
+pub record Keeps (m : Model) (log : List Entry) (kept : RecordState)
+    (has_session : Bool) : Type 0 where
   pub legal : IsLegal m log
   pub shown : kept ≡ recorded (local_after m log)
   pub session : has_session ≡ has_opened log
@@ -81,7 +82,8 @@ abbrev pub SentCrosses : HandleState → Option Sent → Type 0
 SentCrosses h None = Unit {0}
 SentCrosses h (Some sent) = IsSome (asks h sent.call)
 
--- There is room for each line that was begun: it has four entries at most, and the call that is out has one of them.
+-- There is room for each line that was begun: it has four entries at most, and the call that is out
+-- has one of them.
 pub record IsWithin (h : HandleState) : Type 0 where
   pub begun : h.begun ≤ h.lines
   pub logged : length h.entries + count_out h.sent ≤ 4 * h.begun
@@ -99,24 +101,29 @@ with_line h = record h { begun = h.begun + 1 }
 abbrev pub with_sent : HandleState → ℕ → Call → HandleState
 with_sent h line call = record h { sent = Some (record { line = line; call = call }) }
 
--- A line's call is begun. Where it crosses its command stands at the front of the bytes and the call is out; where it is
--- answered without the device it is logged; and else nothing is done but that the line is begun.
+-- A line's call is begun. Where it crosses its command stands at the front of the bytes and the
+-- call is out; where it is answered without the device it is logged; and else nothing is done but
+-- that the line is begun.
 abbrev pub Starts : Way → HandleState → ℕ → Call → List ℕ → Started → HandleState → List ℕ → Type 0
 Starts (Crosses command) h line call out started h' out' =
     (started ≡ Send (length (command_bytes command))) × (h' ≡ with_sent (with_line h) line call)
     × (out' ≡ command_bytes command ++ drop (length (command_bytes command)) out)
 Starts AnsweredHere h line call out started h' out' =
-    (started ≡ Answered) × (h' ≡ with_entry (with_line h) line call (answer_here (local_of h) line call)) × (out' ≡ out)
+    (started ≡ Answered) ×
+    (h' ≡ with_entry (with_line h) line call (answer_here (local_of h) line call)) ×
+    (out' ≡ out)
 Starts Waits h line call out started h' out' = (started ≡ Wait) × (h' ≡ with_line h) × (out' ≡ out)
 Starts TouchesMemory h line call out started h' out' = ⊥
-Starts NotBuilt h line call out started h' out' = (started ≡ Answered) × (h' ≡ with_line h) × (out' ≡ out)
+Starts NotBuilt h line call out started h' out' =
+    (started ≡ Answered) × (h' ≡ with_line h) × (out' ≡ out)
 
 -- ---- a call is answered
 
 -- From this state the call may have this reply, and this is the device's answer then.
 abbrev pub IsAnswer : LocalState → ℕ → Call → Response → Reply → Type 0
 IsAnswer s line call response reply =
-    (next : LocalState) × (session : ℕ) × (IsCall s line call reply next × (response ≡ response_to session s call reply))
+    (next : LocalState) × (session : ℕ) ×
+    (IsCall s line call reply next × (response ≡ response_to session s call reply))
 
 -- the device may answer this to a line's call that crosses
 abbrev pub MayAnswer : HandleState → ℕ → Call → Response → Type 0
@@ -130,4 +137,7 @@ session_from session call reply response = session
 -- the handle once the call that is out is answered so
 abbrev pub with_reply : HandleState → ℕ → Call → Reply → Response → HandleState
 with_reply h line call reply response =
-    record (with_entry h line call reply) { session = session_from h.session call reply response; sent = None }
+    record (with_entry h line call reply) {
+      session = session_from h.session call reply response;
+      sent = None;
+    }

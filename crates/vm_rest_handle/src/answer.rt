@@ -26,7 +26,8 @@ use vm_wire::Response;
 
 // What the device can do, by its record. None where the bytes are too few, here and below.
 fn caps_in(bytes: &[u8]) -> Option<Reply>
-    ensures { (m : Model) → bytes.now ≡ capability_bytes (capability_of m) → result ≡ Some (Reply.Caps (capabilities m) (device_capabilities m)) }
+    ensures { (m : Model) → bytes.now ≡ capability_bytes (capability_of m) →
+        result ≡ Some (Reply.Caps (capabilities m) (device_capabilities m)) }
 {
     let record = read_capability(bytes).ok()?;
     Some(Reply::Caps {
@@ -37,7 +38,8 @@ fn caps_in(bytes: &[u8]) -> Option<Reply>
 
 // The code of a format that is offered.
 fn code_in(bytes: &[u8]) -> Option<Reply>
-    ensures { (t i : ℕ) (code : FourCc) → t < 2 ^ 32 → i < 2 ^ 32 → code.0 < 2 ^ 32 → bytes.now ≡ fmtdesc_bytes (fmt_desc_answer t i code) → result ≡ Some (Reply.Code code) }
+    ensures { (t i : ℕ) (code : FourCc) → t < 2 ^ 32 → i < 2 ^ 32 → code.0 < 2 ^ 32 →
+        bytes.now ≡ fmtdesc_bytes (fmt_desc_answer t i code) → result ≡ Some (Reply.Code code) }
 {
     let record = read_fmtdesc(bytes).ok()?;
     Some(Reply::Code(FourCc(record.pixelformat)))
@@ -45,7 +47,8 @@ fn code_in(bytes: &[u8]) -> Option<Reply>
 
 // The format of a queue.
 fn format_in(bytes: &[u8]) -> Option<Reply>
-    ensures { (t : ℕ) (f : Fmt) → t < 2 ^ 32 → IsAdjusted f → bytes.now ≡ format_bytes (format_answer t f) → result ≡ Some (format_reply f) }
+    ensures { (t : ℕ) (f : Fmt) → t < 2 ^ 32 → IsAdjusted f →
+        bytes.now ≡ format_bytes (format_answer t f) → result ≡ Some (format_reply f) }
 {
     let record = read_format(bytes).ok()?;
     Some(Reply::Format {
@@ -61,7 +64,8 @@ fn format_in(bytes: &[u8]) -> Option<Reply>
 
 // The number of an input whose name is told.
 fn name_in(bytes: &[u8]) -> Option<Reply>
-    ensures { (i : ℕ) → i < 2 ^ 32 → bytes.now ≡ input_bytes (input_answer i) → result ≡ Some (Reply.InputName i) }
+    ensures { (i : ℕ) → i < 2 ^ 32 → bytes.now ≡ input_bytes (input_answer i) →
+        result ≡ Some (Reply.InputName i) }
 {
     let record = read_input(bytes).ok()?;
     Some(Reply::InputName(record.index))
@@ -77,7 +81,9 @@ fn input_in(bytes: &[u8]) -> Option<Reply>
 
 // The reply that the answer to a call that crossed tells.
 fn told(call: &Call, bytes: &[u8]) -> Option<Reply>
-    ensures { (id : ℕ) (s : LocalState) (line : ℕ) (reply : Reply) → IsSome (command_of id s call.now) → IsInRange s → IsAnswer s line call.now (Answered bytes.now) reply → result ≡ Some reply }
+    ensures { (id : ℕ) (s : LocalState) (line : ℕ) (reply : Reply) →
+        IsSome (command_of id s call.now) → IsInRange s →
+        IsAnswer s line call.now (Answered bytes.now) reply → result ≡ Some reply }
 {
     match words(*call) {
         Call::QueryCap => caps_in(bytes),
@@ -89,10 +95,12 @@ fn told(call: &Call, bytes: &[u8]) -> Option<Reply>
     }
 }
 
-/// The reply of a call that crossed and to which the device answers this: it is the one that the call has from the
-/// handle's state.
+/// The reply of a call that crossed and to which the device answers this: it is the one that the
+/// call has from the handle's state.
 pub(crate) fn reply_of(call: &Call, response: &Response) -> Option<Reply>
-    ensures { (id : ℕ) (s : LocalState) (line : ℕ) (reply : Reply) → IsSome (command_of id s call.now) → IsInRange s → IsAnswer s line call.now response.now reply → result ≡ Some reply }
+    ensures { (id : ℕ) (s : LocalState) (line : ℕ) (reply : Reply) →
+        IsSome (command_of id s call.now) → IsInRange s →
+        IsAnswer s line call.now response.now reply → result ≡ Some reply }
 {
     match response {
         Response::Refused(status) => Some(Reply::Refused(Errno::of(*status)?)),

@@ -68,7 +68,8 @@ fn way_on(session: u32, call: &Call) -> Way
 
 // How a call is begun on a handle that isn't open.
 fn way_on_closed(call: &Call) -> Way
-    ensures { (session : ℕ) (s : LocalState) → s.opened ≡ false → result ≡ way_of session s call.now }
+    ensures { (session : ℕ) (s : LocalState) → s.opened ≡ false →
+        result ≡ way_of session s call.now }
 {
     match call {
         Call::OpenHandle { .. } => Way::Crosses(Command::OpenSession),
@@ -105,8 +106,8 @@ pub fn touches_memory(call: &Call) -> bool
     )
 }
 
-/// The command by which a call crosses to the device from a handle of which this is the record, if it does: an open
-/// always, any other from a handle that is open, with its session.
+/// The command by which a call crosses to the device from a handle of which this is the record, if
+/// it does: an open always, any other from a handle that is open, with its session.
 ///
 /// Source: own.
 pub fn command_of(session: u32, kept: &Record, call: &Call) -> Option<Command>
@@ -118,13 +119,14 @@ pub fn command_of(session: u32, kept: &Record, call: &Call) -> Option<Command>
     }
 }
 
-/// The device's reply to a call that crosses from a handle of which this is the record, and is answered so. An open that is
-/// answered ok gets the session with this id.
+/// The device's reply to a call that crosses from a handle of which this is the record, and is
+/// answered so. An open that is answered ok gets the session with this id.
 ///
 /// Source: own.
 pub fn response_to(session: u32, kept: &Record, call: &Call, reply: &Reply) -> Response
     requires offered { IsOffered reply.now }
-    ensures { (s : LocalState) → kept.now ≡ recorded s → result ≡ response_to session s call.now reply.now }
+    ensures { (s : LocalState) → kept.now ≡ recorded s →
+        result ≡ response_to session s call.now reply.now }
 {
     match (*call, *reply) {
         (_, Reply::Refused(errno)) => Response::Refused(errno.number()),

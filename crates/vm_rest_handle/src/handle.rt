@@ -52,11 +52,25 @@ impl Model for Handle {
 
     ghost Value = { HandleState };
 
-    ghost view = { λ h. record { model = h.model; entries = h.log.items; session = h.session; lines = h.lines; begun = h.begun; sent = h.sent } };
+    ghost view = { λ h. record {
+      model = h.model;
+      entries = h.log.items;
+      session = h.session;
+      lines = h.lines;
+      begun = h.begun;
+      sent = h.sent;
+    } };
 
     ghost invariant = { λ h. (4 * h.lines ≤ vec_capacity h.log)
         × Keeps h.model h.log.items h.kept (is_some h.session)
-        × IsWithin (record { model = h.model; entries = h.log.items; session = h.session; lines = h.lines; begun = h.begun; sent = h.sent }) };
+        × IsWithin (record {
+          model = h.model;
+          entries = h.log.items;
+          session = h.session;
+          lines = h.lines;
+          begun = h.begun;
+          sent = h.sent;
+        }) };
 }
 
 // The session's id once a call is answered: an open that is answered ok brings one.
@@ -122,8 +136,8 @@ impl Handle {
         self.kept.after(&entry);
     }
 
-    /// The command by which a call crosses to the device, if it does: an open always, any other from a handle that
-    /// is open, with its session.
+    /// The command by which a call crosses to the device, if it does: an open always, any other
+    /// from a handle that is open, with its session.
     pub fn command(&self, call: &Call) -> Option<Command>
         ensures asks { result ≡ asks self.now call.now }
         ensures fits { IfSome result (λ c. IsCommand c) }
@@ -134,16 +148,17 @@ impl Handle {
         }
     }
 
-    /// Begins a line's call. Where it crosses, its command is written at the front of `out`; a call on a handle that isn't
-    /// open is logged as refused with EBADF. A call that isn't built is `Answered` and not logged, which the reader of a
-    /// script says of its line.
+    /// Begins a line's call. Where it crosses, its command is written at the front of `out`; a call
+    /// on a handle that isn't open is logged as refused with EBADF. A call that isn't built is
+    /// `Answered` and not logged, which the reader of a script says of its line.
     pub fn start(&mut self, line: u32, call: &Call, out: &mut [u8], held: &mut Vec<Held>) -> Started
         requires none_out { self.old.sent ≡ None }
         requires lines { self.old.begun < self.old.lines }
         requires payload { touches_memory call.now ≡ false }
         requires out { 4096 ≤ length out.old }
         requires held { vec_len held.old < vec_capacity held.old }
-        ensures starts { Starts (way_from self.old call.now) self.old line call.now out.old result self.new out.new }
+        ensures starts { Starts
+            (way_from self.old call.now) self.old line call.now out.old result self.new out.new }
         ensures fits { IfSome (asks self.old call.now) (λ c. IsCommand c) }
         ensures held { held.new ≡ held.old }
     {
@@ -165,12 +180,15 @@ impl Handle {
         }
     }
 
-    /// Logs the call that is out, with the reply that the device's answer tells. The answer is one that the call may
-    /// have from the handle's state. An open that is answered ok brings the session's id.
+    /// Logs the call that is out, with the reply that the device's answer tells. The answer is one
+    /// that the call may have from the handle's state. An open that is answered ok brings the
+    /// session's id.
     pub fn reply(&mut self, line: u32, call: &Call, response: &Response, held: &mut Vec<Held>)
         requires out { self.old.sent ≡ Some (record { line = line; call = call.now }) }
         requires answer { MayAnswer self.old line call.now response.now }
-        ensures replied { (reply : Reply) → IsAnswer (local_of self.old) line call.now response.now reply → self.new ≡ with_reply self.old line call.now reply response.now }
+        ensures replied { (reply : Reply) → IsAnswer
+            (local_of self.old) line call.now response.now reply →
+            self.new ≡ with_reply self.old line call.now reply response.now }
         ensures held { held.new ≡ held.old }
     {
         let session = self.session;

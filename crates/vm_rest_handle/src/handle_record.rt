@@ -7,9 +7,11 @@ use std::marker::Model;
 use v4l_const::Model as DeviceModel;
 use vm_local::{Call, Entry, Reply};
 
-/// What of a handle's state decides how its calls are begun: the device's model, and whether the handle is open.
+/// What of a handle's state decides how its calls are begun: the device's model, and whether the
+/// handle is open.
 ///
-/// A record is moved by the entries of a log as the state is. So it tells of each call of a log whether it crossed.
+/// A record is moved by the entries of a log as the state is. So it tells of each call of a log
+/// whether it crossed.
 ///
 /// Source: own.
 #[derive(Drop)]
@@ -62,9 +64,11 @@ impl Record {
         self.opened
     }
 
-    /// The record after an entry. From a state that this record shows the entry leads to one that the new record shows.
+    /// The record after an entry. From a state that this record shows the entry leads to one that
+    /// the new record shows.
     pub fn after(&mut self, entry: &Entry)
-        ensures { (s t : LocalState) → self.old ≡ recorded s → after s entry.now ≡ Some t → self.new ≡ recorded t }
+        ensures { (s t : LocalState) → self.old ≡ recorded s → after s entry.now ≡ Some t →
+            self.new ≡ recorded t }
     {
         if let Entry::Called { call, reply, .. } = entry {
             self.opened = opened_by(self.opened, call, reply);

@@ -1,5 +1,5 @@
-//! The driver's side of one handle: its log, how its calls are begun, and which of them cross to the device, with what
-//! command and reply.
+//! The driver's side of one handle: its log, how its calls are begun, and which of them cross to
+//! the device, with what command and reply.
 #![tactic(auto)]
 
 mod answer;

@@ -1,5 +1,5 @@
-//! Lines on a handle, by the bytes of their commands and of the device's answers, which are worked by hand from the
-//! tables of the wire and of the records.
+//! Lines on a handle, by the bytes of their commands and of the device's answers, which are worked
+//! by hand from the tables of the wire and of the records.
 
 use std::alloc::Global;
 use std::test::Fail;
@@ -35,7 +35,8 @@ const REQUEST_REST: &[u8] = &[0; 188];
 
 const ANSWER_REST: &[u8] = &[0; 176];
 
-/// A call with the bytes of its command and of the device's answer in parts, and the reply that it is logged with.
+/// A call with the bytes of its command and of the device's answer in parts, and the reply that it
+/// is logged with.
 #[derive(Clone, Copy)]
 struct Row<'a> {
     call: Call,

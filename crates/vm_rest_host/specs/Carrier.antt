@@ -35,14 +35,18 @@ overlaid old at new = take at old ++ (new ++ drop (at + length new) old)
 -- the pages with these bytes from a place on of the first page with a number
 abbrev pub with_bytes : List Page → ℕ → ℕ → List ℕ → List Page
 with_bytes [] number at new = []
-with_bytes (p ∷ ps) number at new = if p.number == number then record p { bytes = overlaid p.bytes at new } ∷ ps else p ∷ with_bytes ps number at new
+with_bytes (p ∷ ps) number at new =
+    if p.number == number then record p { bytes = overlaid p.bytes at new } ∷ ps
+    else p ∷ with_bytes ps number at new
 
--- the pages with these bytes at the front of what the device may write of a chain: in its writable descriptors, in order
+-- the pages with these bytes at the front of what the device may write of a chain: in its writable
+-- descriptors, in order
 abbrev pub written : List Desc → List ℕ → List Page → List Page
 written [] bytes pages = pages
 written (d ∷ ds) bytes pages =
     if is_writable d
-    then written ds (drop d.len bytes) (with_bytes pages (page_number d.addr) (place_in_page d.addr) (take d.len bytes))
+    then written ds (drop d.len bytes)
+    (with_bytes pages (page_number d.addr) (place_in_page d.addr) (take d.len bytes))
     else written ds bytes pages
 
 -- each descriptor's bytes stay in one page

@@ -9,8 +9,8 @@ abbrev pub MadeMost : ℕ → Option Session → Type 0
 MadeMost n None = Unit {0}
 MadeMost n (Some s) = s.made ≤ n
 
--- A device with places for so many sessions served n chains: it opened no more sessions and made no more mappings, and each live
--- session made 32 times as many frames at most.
+-- A device with places for so many sessions served n chains: it opened no more sessions and made no
+-- more mappings, and each live session made 32 times as many frames at most.
 pub record HasServed (n places : ℕ) (h : HostState) : Type 0 where
   pub opens : h.opens ≡ places
   pub opened : length h.sessions ≤ n

@@ -59,7 +59,8 @@ refused errno h = reply_alone (Refused (errno_number errno)) h
 
 -- the next session, under the next id
 abbrev pub with_session : HostState → HostState
-with_session h = record h { sessions = h.sessions ++ Some (opening_session h.model (length h.sessions)) ∷ [] }
+with_session h =
+    record h { sessions = h.sessions ++ Some (opening_session h.model (length h.sessions)) ∷ [] }
 
 abbrev pub without_session : HostState → ℕ → HostState
 without_session h id = record h { sessions = slice_set h.sessions id None }
@@ -73,8 +74,8 @@ opened false h = refused Enomem h
 abbrev pub session_of : HostState → ℕ → Option Session
 session_of h id = slice_index_or h.sessions id None
 
--- what a call in a session gives: its payload goes back with the memories that it puts back, and the
--- session is as the call leaves it
+-- what a call in a session gives: its payload goes back with the memories that it puts back, and
+-- the session is as the call leaves it
 abbrev pub called : HostState → ℕ → Result IoctlAnswer Errno → Answer
 called h id (Ok a) = record {
   response = Answered a.payload;
@@ -120,7 +121,8 @@ FitsCall c = Unit {0}
 abbrev pub Calls : Slab Session → Slab Session → ℕ → Result IoctlAnswer Errno → List ℕ → List ℕ →
     List Held → List Held → Result (Unit {0}) Errno → Type 0
 Calls old new key (Ok a) payload payload' held held' result =
-    (result ≡ Ok tt) × (payload' ≡ a.payload) × (held' ≡ held ++ a.back) × Updates old new key (Some a.next)
+    (result ≡ Ok tt) × (payload' ≡ a.payload) × (held' ≡ held ++ a.back) ×
+    Updates old new key (Some a.next)
 Calls old new key (Err errno) payload payload' held held' result =
     (result ≡ Err errno) × (payload' ≡ payload) × (held' ≡ held) × (new.slots ≡ old.slots)
 
@@ -134,12 +136,13 @@ reply_to (Err errno) payload = Refused (errno_number errno)
 abbrev pub with_region : HostState → RegionState → HostState
 with_region h region = record h { region = region }
 
--- The frame of this tag and length is mapped: its range's address and its length are told. Whether there is memory is
--- free.
+-- The frame of this tag and length is mapped: its range's address and its length are told. Whether
+-- there is memory is free.
 abbrev pub MapsFrame : HostState → ℕ → ℕ → Answer → Type 0
 MapsFrame h tag len a =
     (a ≡ refused Enomem h)
-    ⊎ ((addr : ℕ) × (region : RegionState) × Maps (range_of tag h.region.ranges) h.region tag (pages_of len) addr region
+    ⊎ ((addr : ℕ) × (region : RegionState) ×
+    Maps (range_of tag h.region.ranges) h.region tag (pages_of len) addr region
     × (a ≡ reply_alone (Mapped addr len) (with_region h region)))
 
 -- the same of a frame that is looked for
@@ -150,7 +153,8 @@ MapsFound h (Err errno) a = a ≡ refused errno h
 -- a mapping of the live range that starts at an address is given back, if there is one
 abbrev pub UnmapsAt : HostState → ℕ → Option LiveRange → Answer → Type 0
 UnmapsAt h addr (Some r) a =
-    (region : RegionState) × Unmaps h.region addr r region × (a ≡ reply_alone Unmapped (with_region h region))
+    (region : RegionState) × Unmaps h.region addr r region ×
+    (a ≡ reply_alone Unmapped (with_region h region))
 UnmapsAt h addr None a = a ≡ refused Einval h
 
 -- ---- commands
@@ -188,10 +192,12 @@ abbrev pub AnswersTo : HostState → Result Command CmdFault → Answer → Type
 AnswersTo h (Ok c) a = Performs h c a
 AnswersTo h (Err f) a = a ≡ refused (errno_of_fault f) h
 
--- Such an answer is given: the reply, the device after it, and the memories that go back, behind what was held.
+-- Such an answer is given: the reply, the device after it, and the memories that go back, behind
+-- what was held.
 abbrev pub IsGiven : (Answer → Type 0) → Response → List Held → List Held → HostState → Type 0
 IsGiven P response held held' host =
-    (back : List Held) × P (record { response = response; back = back; host = host }) × (held' ≡ held ++ back)
+    (back : List Held) × P (record { response = response; back = back; host = host }) ×
+    (held' ≡ held ++ back)
 
 -- ---- chains
 
@@ -226,11 +232,13 @@ sent_with p descs response back = record {
 abbrev pub asked_by : List Desc → List Page → Result Command CmdFault
 asked_by descs pages = judged (readable_of descs pages) (writable_bytes descs)
 
--- A chain goes back with its answer; one with fewer than 8 bytes to write goes back empty, and changes nothing.
+-- A chain goes back with its answer; one with fewer than 8 bytes to write goes back empty, and
+-- changes nothing.
 abbrev pub AnswersIf : Bool → List Desc → Parcel → HostState → Sent → HostState → Type 0
 AnswersIf true descs p h sent h' = (sent ≡ sent_empty p) × (h' ≡ h)
 AnswersIf false descs p h sent h' =
-    (a : Answer) × AnswersTo h (asked_by descs p.pages) a × (sent ≡ sent_with p descs a.response a.back) × (h' ≡ a.host)
+    (a : Answer) × AnswersTo h (asked_by descs p.pages) a ×
+    (sent ≡ sent_with p descs a.response a.back) × (h' ≡ a.host)
 
 -- A chain with a fault goes back empty too.
 abbrev pub Serves : Result (List Desc) ChainFault → Parcel → HostState → Sent → HostState → Type 0
@@ -238,13 +246,19 @@ Serves (Err fault) p h sent h' = (sent ≡ sent_empty p) × (h' ≡ h)
 Serves (Ok descs) p h sent h' = AnswersIf (nat_lt (writable_bytes descs) 8) descs p h sent h'
 
 -- what became of a chain with this fault or these descriptors, of which so many bytes were written
-abbrev pub Served : Option ChainFault → List Desc → Parcel → HostState → ℕ → Parcel → HostState → Type 0
-Served (Some fault) descs p h used p' h' = Serves (Err fault) p h (record { used = used; parcel = p' }) h'
+abbrev pub Served : Option ChainFault → List Desc → Parcel → HostState → ℕ → Parcel → HostState →
+    Type 0
+Served (Some fault) descs p h used p' h' =
+    Serves (Err fault) p h (record { used = used; parcel = p' }) h'
 Served None descs p h used p' h' = Serves (Ok descs) p h (record { used = used; parcel = p' }) h'
 
 -- the chain of so many descriptors that was sent under this head
 abbrev pub done_as : ℕ → ℕ → Sent → DoneChain
-done_as head count sent = record { finished = record { head = head; used = sent.used; parcel = sent.parcel }; count = count }
+done_as head count sent =
+    record {
+      finished = record { head = head; used = sent.used; parcel = sent.parcel };
+      count = count;
+    }
 
 -- the chain that waited first is gone, and stands behind those that are finished
 abbrev pub moved_on : Queue → List Parcel → DoneChain → Queue
@@ -254,7 +268,8 @@ moved_on q waiting done = record q { waiting = waiting; done = q.done ++ done �
 abbrev pub Executes : List Parcel → HostState → Queue → Turn → HostState → Queue → Type 0
 Executes [] h q turn h' q' = (turn ≡ Idle) × (h' ≡ h) × (q' ≡ q)
 Executes (p ∷ ps) h q turn h' q' =
-    (turn ≡ Did) × ((head : ℕ) × (sent : Sent) × (¬ Contains (heads_of q) head) × Serves (chain_in p) p h sent h' × (q' ≡ moved_on q ps (done_as head (length p.table) sent)))
+    (turn ≡ Did) × ((head : ℕ) × (sent : Sent) × (¬ Contains (heads_of q) head) ×
+    Serves (chain_in p) p h sent h' × (q' ≡ moved_on q ps (done_as head (length p.table) sent)))
 
 -- there is a place for what the chain that waits first, if any, adds
 abbrev pub HasPlace : List Parcel → HostState → Type 0

@@ -24,8 +24,8 @@ pages_of len = div_ceil len 4096
 abbrev pub queue_in : Session → ℕ → SessionQueue
 queue_in s place = slice_index_or s.queues place opening_queue
 
--- The frame that the session made after k others may be mapped, and has this length: it is that of buffer i in the queue
--- at a place.
+-- The frame that the session made after k others may be mapped, and has this length: it is that of
+-- buffer i in the queue at a place.
 pub record HasFrame (s : Session) (k len : ℕ) : Type 0 where
   pub place : ℕ
   pub i : ℕ
@@ -33,7 +33,8 @@ pub record HasFrame (s : Session) (k len : ℕ) : Type 0 where
   pub number : k ≡ (queue_in s place).first_frame + i
   pub has : slice_get (queue_in s place).lengths i ≡ Some len
 
--- Each frame that may be mapped was made and has a picture's length, and no two buffers of other lengths have one frame.
+-- Each frame that may be mapped was made and has a picture's length, and no two buffers of other
+-- lengths have one frame.
 pub record IsFramed (s : Session) : Type 0 where
   pub formats : (place : ℕ) → IsAdjusted (queue_in s place).format
   pub made : (k len : ℕ) → HasFrame s k len → k < s.made
@@ -52,8 +53,10 @@ pub record FitsSession (id : ℕ) (s : Session) (ranges : List LiveRange) : Type
   pub pages : (k len : ℕ) → HasFrame s k len → HasPages ranges (frame_tag id k) len
   pub unmade : (k : ℕ) → s.made ≤ k → k < 2 ^ 32 → range_of (frame_tag id k) ranges ≡ None
 
--- That holds of each live session, and no frame of a session to come has a range. So a frame is never given the range of
--- another one, and one that is mapped again has the pages of its range.
+-- That holds of each live session, and no frame of a session to come has a range. So a frame is
+-- never given the range of another one, and one that is mapped again has the pages of its range.
 pub record FitsSessions (sessions : List (Option Session)) (ranges : List LiveRange) : Type 0 where
-  pub live : (id : ℕ) (s : Session) → slice_index_or sessions id None ≡ Some s → FitsSession id s ranges
-  pub unopened : (id k : ℕ) → length sessions ≤ id → k < 2 ^ 32 → range_of (frame_tag id k) ranges ≡ None
+  pub live : (id : ℕ) (s : Session) → slice_index_or sessions id None ≡ Some s →
+      FitsSession id s ranges
+  pub unopened : (id k : ℕ) → length sessions ≤ id → k < 2 ^ 32 →
+      range_of (frame_tag id k) ranges ≡ None

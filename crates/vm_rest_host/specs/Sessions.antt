@@ -1,12 +1,13 @@
--- What the device keeps: its sessions by their ids, and the region in which their frames are mapped.
+-- What the device keeps: its sessions by their ids, and the region in which their frames are
+-- mapped.
 use Rattle.std.specs.Prelude.{ℕ, ◌≡◌, ◌<◌, ◌+◌, Option, Some, None, List, [], ◌∷◌, length, map, slice_index_or, IfSome}
 use Rattle.slab.specs.Slab.{Slab, get}
 use Rattle.v4l_const.specs.declared.model.Model.{Model}
 use Rattle.vm_region.specs.Region.{RegionState}
 use Rattle.vm_rest_session.specs.declared.session.Session.{Session}
 
--- The device's model, how many sessions may be opened, by id each session that was opened, until it is closed, and the
--- region that is shared with the driver.
+-- The device's model, how many sessions may be opened, by id each session that was opened, until it
+-- is closed, and the region that is shared with the driver.
 pub record HostState : Type 0 where
   pub model : Model
   pub opens : ℕ
@@ -29,7 +30,8 @@ HasId id (Some s) = s.id ≡ id
 -- each key leads to a session, whose id is the key's place
 abbrev pub HasEachSession : Slab Session → List (Option ℕ) → Type 0
 HasEachSession slab keys =
-    (id : ℕ) → id < length keys → IfSome (slice_index_or keys id None) (λ key. HasId id (get slab key))
+    (id : ℕ) → id < length keys →
+    IfSome (slice_index_or keys id None) (λ key. HasId id (get slab key))
 
 -- how many places have a key
 abbrev pub key_count : List (Option ℕ) → ℕ

@@ -93,7 +93,8 @@ fn readable_at<'a>(desc: &Desc, pages: &'a [Page]) -> &'a [u8]
     }
 }
 
-/// Reads what a chain asks: the bytes of its readable descriptors, in order. There is room for a page's bytes for each.
+/// Reads what a chain asks: the bytes of its readable descriptors, in order. There is room for a
+/// page's bytes for each.
 pub fn gather(descs: &[Desc], pages: &[Page], bytes: &mut Vec<u8>)
     requires room { 4096 * length descs.now ≤ vec_capacity bytes.old }
     ensures bytes { bytes.new.items ≡ readable_of descs.now pages.now }
@@ -105,8 +106,8 @@ pub fn gather(descs: &[Desc], pages: &[Page], bytes: &mut Vec<u8>)
     }
 }
 
-/// Puts a reply at the front of what may be written of a chain: into its writable descriptors, in order. Each descriptor's
-/// bytes stay in one page.
+/// Puts a reply at the front of what may be written of a chain: into its writable descriptors, in
+/// order. Each descriptor's bytes stay in one page.
 pub fn spread(descs: &[Desc], pages: &mut [Page], reply: &[u8])
     requires { StayInPages descs.now }
     ensures { pages.new ≡ written descs.now reply.now pages.old }

@@ -40,8 +40,10 @@ impl Model for Device {
       region = h.region;
     } };
 
-    // Each key leads to its session, and no other session is kept. What is mapped fits the sessions.
-    ghost invariant = { λ h. (h.opens < 2 ^ 32) × (length h.keys.items ≤ h.opens) × (h.opens ≤ vec_capacity h.keys)
+    // Each key leads to its session, and no other session is kept. What is mapped fits the
+    // sessions.
+    ghost invariant = { λ h. (h.opens < 2 ^ 32) × (length h.keys.items ≤ h.opens) ×
+        (h.opens ≤ vec_capacity h.keys)
         × HasEachSession h.slab h.keys.items × (slab_len h.slab ≡ key_count h.keys.items)
         × FitsSessions (sessions_at h.slab h.keys.items) h.region.ranges };
 }
@@ -99,7 +101,8 @@ impl Device {
         requires payload { FitsCall command }
         requires frames { EachMadeFew self.old }
         requires room { vec_len held.old + 64 ≤ vec_capacity held.old }
-        ensures given { IsGiven (Performs self.old command) result held.old.items held.new.items self.new }
+        ensures given { IsGiven
+            (Performs self.old command) result held.old.items held.new.items self.new }
         ensures capacity { vec_capacity held.new ≡ vec_capacity held.old }
     {
         match command {
@@ -119,7 +122,8 @@ impl Device {
         }
     }
 
-    /// Does what the bytes ask, or refuses them. The memories that go back stand behind what is held.
+    /// Does what the bytes ask, or refuses them. The memories that go back stand behind what is
+    /// held.
     pub(crate) fn answer(
         &mut self,
         command: Result<Command, CmdFault>,
@@ -129,7 +133,8 @@ impl Device {
         requires payload { IfOk command FitsCall }
         requires frames { EachMadeFew self.old }
         requires room { vec_len held.old + 64 ≤ vec_capacity held.old }
-        ensures given { IsGiven (AnswersTo self.old command) result held.old.items held.new.items self.new }
+        ensures given { IsGiven
+            (AnswersTo self.old command) result held.old.items held.new.items self.new }
         ensures capacity { vec_capacity held.new ≡ vec_capacity held.old }
     {
         match command {

@@ -21,7 +21,8 @@ const CHAIN_LIMIT: u16 = 64;
 /// How many bytes a chain has to have room for before anything is written.
 const STATUS_LEN: u32 = 8;
 
-/// The device, with the sessions that guests opened and the region in which their frames are mapped.
+/// The device, with the sessions that guests opened and the region in which their frames are
+/// mapped.
 ///
 /// A session's id is the number of its open among those that succeeded, and is never used again.
 #[derive(Drop)]
@@ -47,13 +48,14 @@ impl Model for Host {
 // Writes a reply to the front of what may be written of a chain.
 fn write_reply(descs: &[Desc], parcel: &mut Parcel, reply: &[u8])
     requires { StayInPages descs.now }
-    ensures { parcel.new ≡ record parcel.old { pages = written descs.now reply.now parcel.old.pages } }
+    ensures { parcel.new ≡ record parcel.old
+        { pages = written descs.now reply.now parcel.old.pages } }
 {
     spread(descs, &mut parcel.pages, reply);
 }
 
-// Does what a chain without a fault asks, and gives how many bytes of its reply were written. A chain with fewer than 8
-// bytes to write asks nothing.
+// Does what a chain without a fault asks, and gives how many bytes of its reply were written. A
+// chain with fewer than 8 bytes to write asks nothing.
 fn answer(device: &mut Device, chain: &Chain, bytes: &mut Vec<u8>, parcel: &mut Parcel) -> u32
     requires stay { StayInPages chain.now.descs }
     requires few { length chain.now.descs ≤ 64 }
@@ -86,7 +88,8 @@ fn serve(
 ) -> u32
     requires fits { fault ≡ None → Fits 64 chain.now.descs }
     requires room { 262144 ≤ vec_capacity bytes.old }
-    requires place { fault ≡ None → IfOk (asked_by chain.now.descs parcel.old.pages) (HasPlaceFor device.old) }
+    requires place { fault ≡ None → IfOk (asked_by chain.now.descs parcel.old.pages)
+        (HasPlaceFor device.old) }
     requires frames { EachMadeFew device.old }
     requires held { length parcel.old.held + 64 ≤ parcel.old.room }
     ensures served { Served fault chain.now.descs parcel.old device.old result parcel.new device.new }
@@ -130,26 +133,31 @@ impl Host {
         self.device.region()
     }
 
-    /// Takes the chain that waits first, does the command that it brings, and sends the reply back. `Idle` exactly where
-    /// none waits. Where the command opens a session, fewer than `opens` sessions were opened before, and where it maps a
-    /// buffer, fewer than 16,384 mappings were made. Only an open, a request for buffers and a mapping take memory. The
-    /// chain has room for 64 memories behind those that it holds, and each session made fewer than 2^32 - 32 frames: the
-    /// memories that a command takes out of a session's hands go along with the reply. The queue of events stays as it
-    /// was.
+    /// Takes the chain that waits first, does the command that it brings, and sends the reply back.
+    /// `Idle` exactly where none waits. Where the command opens a session, fewer than `opens`
+    /// sessions were opened before, and where it maps a buffer, fewer than 16,384 mappings were
+    /// made. Only an open, a request for buffers and a mapping take memory. The chain has room for
+    /// 64 memories behind those that it holds, and each session made fewer than 2^32 - 32 frames:
+    /// the memories that a command takes out of a session's hands go along with the reply. The
+    /// queue of events stays as it was.
     ///
-    /// A chain with a fault, or with fewer than 8 bytes to write, goes back with nothing written. A malformed command is
-    /// refused by its fault: EINVAL where it is short, EOPNOTSUPP where its number is unknown, ENOTTY where its code is,
-    /// EMSGSIZE where its reply has too little room. A command for a session that isn't live is refused with EBADF, and
-    /// one that finds no memory with ENOMEM. A mapping is refused with EINVAL where no frame of the session is mapped from
-    /// its offset, and the giving back of one where no live range starts at its address. A refusal leaves the device as it
-    /// was. No command but these two changes the region: what is mapped stays so when its session is closed.
+    /// A chain with a fault, or with fewer than 8 bytes to write, goes back with nothing written. A
+    /// malformed command is refused by its fault: EINVAL where it is short, EOPNOTSUPP where its
+    /// number is unknown, ENOTTY where its code is, EMSGSIZE where its reply has too little room. A
+    /// command for a session that isn't live is refused with EBADF, and one that finds no memory
+    /// with ENOMEM. A mapping is refused with EINVAL where no frame of the session is mapped from
+    /// its offset, and the giving back of one where no live range starts at its address. A refusal
+    /// leaves the device as it was. No command but these two changes the region: what is mapped
+    /// stays so when its session is closed.
     ///
     /// Source: own, after the sessions of the VIRTIO 1.4 draft's media device.
     pub fn execute<L: Link>(&mut self, link: &mut L) -> Turn
         requires place { HasPlace (queue_at Commands (L.queues link.old)).waiting self.old }
         requires room { HasRoom (queue_at Commands (L.queues link.old)).waiting }
         requires frames { EachMadeFew self.old }
-        ensures executes { Executes (queue_at Commands (L.queues link.old)).waiting self.old (queue_at Commands (L.queues link.old)) result self.new (queue_at Commands (L.queues link.new)) }
+        ensures executes { Executes (queue_at Commands (L.queues link.old)).waiting self.old
+            (queue_at Commands (L.queues link.old)) result self.new
+            (queue_at Commands (L.queues link.new)) }
         ensures events { queue_at Events (L.queues link.new) ≡ queue_at Events (L.queues link.old) }
     {
         let Some(taken) = link.take(QueueId::Command, &mut self.chain) else {

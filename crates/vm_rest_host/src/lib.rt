@@ -1,4 +1,5 @@
-//! The device: its sessions and their mappings, and what it answers to the commands that come over the link.
+//! The device: its sessions and their mappings, and what it answers to the commands that come over
+//! the link.
 #![tactic(auto)]
 
 mod carrier;

@@ -14,7 +14,8 @@ use vm_num::pages_of;
 use vm_rest_session::Session;
 use vm_wire::Response;
 
-// The tag and the length of the frame that is mapped from an offset in the session of this id, if it is live.
+// The tag and the length of the frame that is mapped from an offset in the session of this id, if
+// it is live.
 fn find_frame(
     slab: &Slab<Session>,
     keys: &[Option<usize>],
@@ -40,12 +41,14 @@ fn frame_at(slab: &Slab<Session>, key: usize, offset: u32) -> Result<(u64, u32),
 }
 
 impl Device {
-    /// Maps the frame that a session has at an offset, and tells its range's address and its length. EBADF comes where
-    /// the session isn't live, then EINVAL where no frame is mapped from there, and ENOMEM where memory is wanting.
+    /// Maps the frame that a session has at an offset, and tells its range's address and its
+    /// length. EBADF comes where the session isn't live, then EINVAL where no frame is mapped from
+    /// there, and ENOMEM where memory is wanting.
     pub(crate) fn map(&mut self, session: u32, offset: u32) -> Response
         requires few { map_count self.old.region.journal < 16384 }
         requires frames { EachMadeFew self.old }
-        ensures { MapsFound self.old (frame_in (session_of self.old session) offset) (reply_alone result self.new) }
+        ensures { MapsFound self.old (frame_in (session_of self.old session) offset)
+            (reply_alone result self.new) }
     {
         let (tag, length) = match find_frame(&self.slab, &self.keys, session, offset) {
             Ok(frame) => frame,
@@ -60,10 +63,11 @@ impl Device {
         }
     }
 
-    /// Gives a mapping of the range that starts at an address back. EINVAL comes exactly where no live range does. No
-    /// session is asked: a frame stays mapped after its session is closed.
+    /// Gives a mapping of the range that starts at an address back. EINVAL comes exactly where no
+    /// live range does. No session is asked: a frame stays mapped after its session is closed.
     pub(crate) fn unmap(&mut self, addr: u64) -> Response
-        ensures { UnmapsAt self.old addr (range_at addr self.old.region.ranges) (reply_alone result self.new) }
+        ensures { UnmapsAt self.old addr (range_at addr self.old.region.ranges)
+            (reply_alone result self.new) }
     {
         match self.region.unmap(addr) {
             Ok(()) => Response::Unmapped,

@@ -28,7 +28,8 @@ fn insert_session(
     id: u32,
 ) -> Option<usize>
     ensures vacant { IfSome result (λ key. get slab.old key ≡ None) }
-    ensures updates { IfSome result (λ key. Updates slab.old slab.new key (Some (opening_session model id))) }
+    ensures updates { IfSome result (λ key. Updates slab.old slab.new key
+        (Some (opening_session model id))) }
     ensures len { IfSome result (λ key. slab_len slab.new ≡ slab_len slab.old + 1) }
     ensures none { IfNone result (slab.new.slots ≡ slab.old.slots) }
 {
@@ -48,7 +49,10 @@ fn call_at(
     requires payload { HasItsLength code payload.old }
     requires frames { (s : Session) → get slab.old key ≡ Some s → s.made < 2 ^ 32 - 32 }
     requires room { vec_len held.old + 64 ≤ vec_capacity held.old }
-    ensures calls { (s : Session) → get slab.old key ≡ Some s → (memory : Bool) × Calls slab.old slab.new key (ioctl_outcome memory s code payload.old) payload.old payload.new held.old.items held.new.items result }
+    ensures calls { (s : Session) → get slab.old key ≡ Some s → (memory : Bool) ×
+        Calls slab.old slab.new key
+        (ioctl_outcome memory s code payload.old) payload.old payload.new held.old.items
+        held.new.items result }
     ensures len { slab_len slab.new ≡ slab_len slab.old }
     ensures capacity { vec_capacity held.new ≡ vec_capacity held.old }
 {
@@ -56,7 +60,8 @@ fn call_at(
     session.ioctl(code, payload, held)
 }
 
-// Stops a session that is closed, if there is one: the memories that are queued in it go behind what is held.
+// Stops a session that is closed, if there is one: the memories that are queued in it go behind
+// what is held.
 fn stop(session: Option<Session>, held: &mut Vec<Held>)
     requires { vec_len held.old + 64 ≤ vec_capacity held.old }
     ensures memories { held.new.items ≡ held.old.items ++ memories_of session }
@@ -96,7 +101,8 @@ impl Device {
     /// Closes a session, if it is live. The memories that are queued in it go behind what is held.
     pub(crate) fn close(&mut self, session: u32, held: &mut Vec<Held>) -> Response
         requires room { vec_len held.old + 64 ≤ vec_capacity held.old }
-        ensures given { IsGiven (Performs self.old (Command.CloseSession session)) result held.old.items held.new.items self.new }
+        ensures given { IsGiven (Performs self.old
+            (Command.CloseSession session)) result held.old.items held.new.items self.new }
         ensures capacity { vec_capacity held.new ≡ vec_capacity held.old }
     {
         match key_at(&self.keys, session) {
@@ -109,7 +115,8 @@ impl Device {
         }
     }
 
-    /// Does a call in a session, if it is live. The memories that it puts back go behind what is held.
+    /// Does a call in a session, if it is live. The memories that it puts back go behind what is
+    /// held.
     pub(crate) fn ioctl(
         &mut self,
         session: u32,
@@ -120,7 +127,8 @@ impl Device {
         requires payload { HasItsLength code payload }
         requires frames { EachMadeFew self.old }
         requires room { vec_len held.old + 64 ≤ vec_capacity held.old }
-        ensures given { IsGiven (Performs self.old (Command.Ioctl session code payload)) result held.old.items held.new.items self.new }
+        ensures given { IsGiven (Performs self.old
+            (Command.Ioctl session code payload)) result held.old.items held.new.items self.new }
         ensures capacity { vec_capacity held.new ≡ vec_capacity held.old }
     {
         let Some(key) = key_at(&self.keys, session) else {

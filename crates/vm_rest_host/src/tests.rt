@@ -31,7 +31,8 @@ fn desc(addr: u64, len: u32, flags: u16, next: u16) -> Desc {
     }
 }
 
-// A chain of two: so many bytes of the command's page are read, and so many of the reply's page may be written.
+// A chain of two: so many bytes of the command's page are read, and so many of the reply's page may
+// be written.
 fn chain(len: u32, room: u32) -> [Desc; 2] {
     [desc(COMMAND, len, NEXT, 1), desc(REPLY, room, WRITE, 0)]
 }
@@ -130,7 +131,8 @@ fn answer(
 #[test]
 fn commands_are_answered(rt: HostRuntime) -> Result<(), Fail> {
     let mut host = Host::new(rt.alloc(), Model::Capture, 64)?;
-    // The command's numbers, how many bytes of them are sent, the room for the reply; the used length and the reply.
+    // The command's numbers, how many bytes of them are sent, the room for the reply; the used
+    // length and the reply.
     let rows = [
         ([1, 0, 0, 0, 0, 0, 0, 0, 0, 0], 8, 64, 16, opened(0)),
         ([1, 0, 0, 0, 0, 0, 0, 0, 0, 0], 7, 64, 8, status(22)),
@@ -140,8 +142,8 @@ fn commands_are_answered(rt: HostRuntime) -> Result<(), Fail> {
         ([9, 0, 0, 0, 0, 0, 0, 0, 0, 0], 40, 64, 8, status(95)),
         ([2, 0, 0, 0, 0, 0, 0, 0, 0, 0], 15, 64, 8, status(22)),
         ([2, 0, 5, 0, 0, 0, 0, 0, 0, 0], 16, 64, 8, status(9)),
-        // The calls of a session: an unknown code, a payload that is cut, little room, two inputs, the bytes behind
-        // a payload, buffers, a call that isn't built, a dead session.
+        // The calls of a session: an unknown code, a payload that is cut, little room, two inputs,
+        // the bytes behind a payload, buffers, a call that isn't built, a dead session.
         ([3, 0, 0, 17, 0, 0, 0, 0, 0, 0], 40, 64, 8, status(25)),
         ([3, 0, 0, 38, 0, 0, 0, 0, 0, 0], 15, 64, 8, status(22)),
         ([3, 0, 0, 38, 0, 0, 0, 0, 0, 0], 19, 64, 8, status(22)),
@@ -159,7 +161,8 @@ fn commands_are_answered(rt: HostRuntime) -> Result<(), Fail> {
         ([3, 0, 0, 18, 1, 0, 0, 0, 0, 0], 20, 64, 8, status(95)),
         ([3, 0, 1, 8, 1, 1, 1, 0, 0, 0], 36, 64, 8, status(9)),
         ([3, 0, 1, 38, 0, 0, 0, 0, 0, 0], 20, 64, 8, status(9)),
-        // The session that refused commands named is live until it is closed, and its id is not given again.
+        // The session that refused commands named is live until it is closed, and its id is not
+        // given again.
         ([2, 0, 0, 0, 0, 0, 0, 0, 0, 0], 16, 64, 8, status(0)),
         ([2, 0, 0, 0, 0, 0, 0, 0, 0, 0], 16, 64, 8, status(9)),
         ([3, 0, 0, 38, 0, 0, 0, 0, 0, 0], 20, 64, 8, status(9)),
@@ -210,8 +213,9 @@ fn bytes_are_gathered_and_spread(rt: HostRuntime) -> Result<(), Fail> {
     let set_input = [3, 0, 0, 39, 3, 0, 0, 0, 0, 0];
     let pad_first = [0, STAYS, 9, STAYS, STAYS, STAYS];
     let payload_first = [3, STAYS, 0, 0, STAYS, STAYS];
-    // The command's numbers, and after how many bytes they are cut; of the two parts of the reply's page that may be
-    // written, in the chain's order, the place and how many bytes there are; the used length and the reply's page.
+    // The command's numbers, and after how many bytes they are cut; of the two parts of the reply's
+    // page that may be written, in the chain's order, the place and how many bytes there are; the
+    // used length and the reply's page.
     let rows: [([u32; 10], u32, Part, Part, u32, [u32; 6]); 5] = [
         // Cut within a number, and written without a gap.
         (open, 3, (0, 5), (5, 11), 16, opened(0)),

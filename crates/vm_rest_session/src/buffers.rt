@@ -32,10 +32,12 @@ impl Session {
     ) -> Result<Payload, Errno>
         requires frames { self.old.made < 2 ^ 32 - 32 }
         requires room { vec_len back.old + 64 ≤ vec_capacity back.old }
-        ensures ok { IfOk result (λ payload. Answers (reqbufs_row self.old t memory count) payload self.new) }
+        ensures ok { IfOk result (λ payload. Answers
+            (reqbufs_row self.old t memory count) payload self.new) }
         ensures err { IfErr result (λ e. MayRefuse (reqbufs_row self.old t memory count) e) }
         ensures kept { OnErr result (self.new ≡ self.old) }
-        ensures back { OnOk result (back.new.items ≡ back.old.items ++ (reqbufs_row self.old t memory count).back) }
+        ensures back { OnOk result (back.new.items ≡ back.old.items ++
+            (reqbufs_row self.old t memory count).back) }
         ensures back_kept { OnErr result (back.new.items ≡ back.old.items) }
         ensures room { vec_capacity back.new ≡ vec_capacity back.old }
         ensures size { IfOk result (λ payload. length payload ≡ request_size) }
@@ -87,7 +89,8 @@ impl Session {
     /// offset.
     ///
     /// # Errors
-    /// `EINVAL` exactly where there is none: no buffer has the offset, or the device didn't give its memory.
+    /// `EINVAL` exactly where there is none: no buffer has the offset, or the device didn't give
+    /// its memory.
     ///
     /// Source: own, after the Linux V4L2 interface, "Streaming I/O (Memory Mapping)".
     pub fn frame_of(&self, offset: u32) -> Result<(u64, u32), Errno>
@@ -103,7 +106,8 @@ impl Session {
     /// while the queue streams.
     #[tactic(auto, unfolding(crate::specs::Session::reqbufs_row))]
     fn check_reqbufs(&self, t: u32, memory: u32, count: u32) -> Result<(), Errno>
-        ensures ok { OnOk result (first_refusal (reqbufs_row self.now t memory count).refusals ≡ None) }
+        ensures ok { OnOk result (first_refusal (reqbufs_row self.now t memory count).refusals ≡
+            None) }
         ensures err { IfErr result (λ e. Refuses (reqbufs_row self.now t memory count) e) }
     {
         self.check_type(t)?;
@@ -138,7 +142,8 @@ impl Session {
         requires count { count ≤ 32 }
         requires room { vec_len back.old + 32 ≤ vec_capacity back.old }
         ensures session { self.new ≡ with_buffers self.old t memory count }
-        ensures memories { back.new.items ≡ back.old.items ++ memories (queue_of self.old t).queued }
+        ensures memories { back.new.items ≡ back.old.items ++
+            memories (queue_of self.old t).queued }
         ensures few { vec_len back.new ≤ vec_len back.old + 32 }
         ensures room { vec_capacity back.new ≡ vec_capacity back.old }
     {

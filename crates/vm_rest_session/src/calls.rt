@@ -18,9 +18,9 @@ impl Session {
     /// memories back has room for 64 there. Fewer than 2^32 - 32 frames were made before.
     ///
     /// # Errors
-    /// The first refusal of the call that applies, or `ENOMEM` where none does and the memory for fresh frames can't be
-    /// had. A refused call changes nothing. The calls that queue buffers, stream and subscribe to events aren't there yet
-    /// and are refused with `EOPNOTSUPP`.
+    /// The first refusal of the call that applies, or `ENOMEM` where none does and the memory for
+    /// fresh frames can't be had. A refused call changes nothing. The calls that queue buffers,
+    /// stream and subscribe to events aren't there yet and are refused with `EOPNOTSUPP`.
     ///
     /// Source: own, after the Linux V4L2 interface.
     pub fn ioctl(
@@ -32,11 +32,13 @@ impl Session {
         requires payload { HasItsLength code payload.old }
         requires frames { self.old.made < 2 ^ 32 - 32 }
         requires room { puts_back code ≡ true → vec_len held.old + 64 ≤ vec_capacity held.old }
-        ensures ok { OnOk result (Answers (ioctl_row self.old code payload.old) payload.new self.new) }
+        ensures ok { OnOk result
+            (Answers (ioctl_row self.old code payload.old) payload.new self.new) }
         ensures err { IfErr result (λ e. MayRefuse (ioctl_row self.old code payload.old) e) }
         ensures session_kept { OnErr result (self.new ≡ self.old) }
         ensures payload_kept { OnErr result (payload.new ≡ payload.old) }
-        ensures back { OnOk result (held.new.items ≡ held.old.items ++ (ioctl_row self.old code payload.old).back) }
+        ensures back { OnOk result (held.new.items ≡ held.old.items ++
+            (ioctl_row self.old code payload.old).back) }
         ensures held_kept { OnErr result (held.new.items ≡ held.old.items) }
         ensures capacity { vec_capacity held.new ≡ vec_capacity held.old }
         ensures size { length payload.new ≡ length payload.old }
@@ -56,10 +58,12 @@ impl Session {
         requires payload { HasItsLength code request.now }
         requires frames { self.old.made < 2 ^ 32 - 32 }
         requires room { puts_back code ≡ true → vec_len held.old + 64 ≤ vec_capacity held.old }
-        ensures ok { IfOk result (λ payload. Answers (ioctl_row self.old code request.now) payload self.new) }
+        ensures ok { IfOk result (λ payload. Answers
+            (ioctl_row self.old code request.now) payload self.new) }
         ensures err { IfErr result (λ e. MayRefuse (ioctl_row self.old code request.now) e) }
         ensures kept { OnErr result (self.new ≡ self.old) }
-        ensures back { OnOk result (held.new.items ≡ held.old.items ++ (ioctl_row self.old code request.now).back) }
+        ensures back { OnOk result (held.new.items ≡ held.old.items ++
+            (ioctl_row self.old code request.now).back) }
         ensures held_kept { OnErr result (held.new.items ≡ held.old.items) }
         ensures capacity { vec_capacity held.new ≡ vec_capacity held.old }
         ensures size { IfOk result (λ payload. length payload ≡ length request.now) }
@@ -78,7 +82,8 @@ impl Session {
     fn answer_alone(&mut self, code: IoctlCode, request: &Payload) -> Result<Payload, Errno>
         requires payload { HasItsLength code request.now }
         requires alone { puts_back code ≡ false }
-        ensures ok { IfOk result (λ payload. Answers (ioctl_row self.old code request.now) payload self.new) }
+        ensures ok { IfOk result (λ payload. Answers
+            (ioctl_row self.old code request.now) payload self.new) }
         ensures err { IfErr result (λ e. Refuses (ioctl_row self.old code request.now) e) }
         ensures kept { OnErr result (self.new ≡ self.old) }
         ensures size { IfOk result (λ payload. length payload ≡ length request.now) }

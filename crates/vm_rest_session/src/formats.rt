@@ -54,7 +54,8 @@ impl Session {
     /// The format that the queue of type `t` would take where it were asked for this one.
     #[tactic(auto, unfolding(crate::specs::Session::tryfmt_row))]
     pub(crate) fn tryfmt(&self, t: u32, f: FourCc, w: u32, h: u32) -> Result<Payload, Errno>
-        ensures ok { IfOk result (λ payload. Answers (tryfmt_row self.now t f w h) payload self.now) }
+        ensures ok { IfOk result (λ payload. Answers
+            (tryfmt_row self.now t f w h) payload self.now) }
         ensures err { IfErr result (λ e. Refuses (tryfmt_row self.now t f w h) e) }
         ensures size { IfOk result (λ payload. length payload ≡ format_size) }
     {
@@ -120,7 +121,8 @@ impl Session {
     /// Sets the format of the queue of type `t` alone.
     fn put_format(&mut self, t: u32, format: Fmt)
         requires { IsAdjusted format }
-        ensures { self.new ≡ record self.old { queues = with_format_at queue_kind self.old.model self.old.queues t format } }
+        ensures { self.new ≡ record self.old
+            { queues = with_format_at queue_kind self.old.model self.old.queues t format } }
     {
         let place = place_in(self.model.queues(), t);
         set_format_at(&mut self.queues, place, format);

@@ -65,8 +65,10 @@ impl Session {
 
     /// Refuses an input that the model doesn't have.
     fn check_input(&self, i: u32) -> Result<(), Errno>
-        ensures ok { OnOk result (first_refusal (no_inputs self.now.model ∷ no_input i ∷ []) ≡ None) }
-        ensures err { IfErr result (λ e. first_refusal (no_inputs self.now.model ∷ no_input i ∷ []) ≡ Some e) }
+        ensures ok { OnOk result (first_refusal (no_inputs self.now.model ∷ no_input i ∷ []) ≡
+            None) }
+        ensures err { IfErr result (λ e. first_refusal
+            (no_inputs self.now.model ∷ no_input i ∷ []) ≡ Some e) }
     {
         match self.check_inputs() {
             Ok(()) if i >= INPUT_COUNT => Err(Errno::Einval),

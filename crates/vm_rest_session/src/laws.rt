@@ -17,22 +17,28 @@ pub fn requests_are_read()
         ioctl_row s IoctlCode.EnumFmt (fmtdesc_bytes (fmt_desc_request t i)) ≡ enumfmt_row s t i }
     ensures gfmt { (s : SessionState) (t : ℕ) → t < 2 ^ 32 →
         ioctl_row s IoctlCode.GFmt (format_bytes (format_type_request t)) ≡ gfmt_row s t }
-    ensures tryfmt { (s : SessionState) (t : ℕ) (f : FourCc) (w h : ℕ) → t < 2 ^ 32 → f.0 < 2 ^ 32 → w < 2 ^ 32 → h < 2 ^ 32 →
-        ioctl_row s IoctlCode.TryFmt (format_bytes (format_request t f w h)) ≡ tryfmt_row s t f w h }
-    ensures sfmt { (s : SessionState) (t : ℕ) (f : FourCc) (w h : ℕ) → t < 2 ^ 32 → f.0 < 2 ^ 32 → w < 2 ^ 32 → h < 2 ^ 32 →
+    ensures tryfmt { (s : SessionState) (t : ℕ) (f : FourCc) (w h : ℕ) → t < 2 ^ 32 → f.0 < 2 ^ 32 →
+        w < 2 ^ 32 → h < 2 ^ 32 →
+        ioctl_row s IoctlCode.TryFmt (format_bytes (format_request t f w h)) ≡
+        tryfmt_row s t f w h }
+    ensures sfmt { (s : SessionState) (t : ℕ) (f : FourCc) (w h : ℕ) → t < 2 ^ 32 → f.0 < 2 ^ 32 →
+        w < 2 ^ 32 → h < 2 ^ 32 →
         ioctl_row s IoctlCode.SFmt (format_bytes (format_request t f w h)) ≡ sfmt_row s t f w h }
     ensures enuminput { (s : SessionState) (i : ℕ) → i < 2 ^ 32 →
         ioctl_row s IoctlCode.EnumInput (input_bytes (input_request i)) ≡ enuminput_row s i }
-    ensures sinput { (s : SessionState) (i : ℕ) → i < 2 ^ 32 → ioctl_row s IoctlCode.SInput (le i) ≡ sinput_row s i }
+    ensures sinput { (s : SessionState) (i : ℕ) → i < 2 ^ 32 →
+        ioctl_row s IoctlCode.SInput (le i) ≡ sinput_row s i }
     ensures reqbufs { (s : SessionState) (t m n : ℕ) → t < 2 ^ 32 → m < 2 ^ 32 → n < 2 ^ 32 →
-        ioctl_row s IoctlCode.ReqBufs (request_bytes (reqbufs_request t m n)) ≡ reqbufs_row s t m n }
+        ioctl_row s IoctlCode.ReqBufs (request_bytes (reqbufs_request t m n)) ≡
+        reqbufs_row s t m n }
     ensures querybuf { (s : SessionState) (t i : ℕ) → t < 2 ^ 32 → i < 2 ^ 32 →
         ioctl_row s IoctlCode.QueryBuf (buffer_bytes (querybuf_request t i)) ≡ querybuf_row s t i }
 {}
 
 /// The answer to a call has as many bytes as its request.
 pub fn answers_have_the_size_of_requests()
-    ensures { (memory : Bool) (s : SessionState) (code : IoctlCode) (payload : List ℕ) (a : IoctlAnswer) →
+    ensures { (memory : Bool) (s : SessionState) (code : IoctlCode) (payload : List ℕ)
+        (a : IoctlAnswer) →
         HasItsLength code payload → ioctl_outcome memory s code payload ≡ Ok a →
         length a.payload ≡ length payload }
 {}

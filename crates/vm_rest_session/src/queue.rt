@@ -47,7 +47,8 @@ impl Model for Queue {
     // Each buffer has a length, and no call takes memory, since there is room for the most. No
     // call takes a buffer out yet.
     ghost invariant = { λ q. IsAdjusted q.format
-        × (length q.lengths.items ≡ q.buffers.count) × (q.buffers.count ≤ 32) × (32 ≤ vec_capacity q.lengths)
+        × (length q.lengths.items ≡ q.buffers.count) × (q.buffers.count ≤ 32) ×
+        (32 ≤ vec_capacity q.lengths)
         × (length q.buffers.queued ≤ 32) × (q.buffers.out ≡ []) × (q.first_frame + 32 ≤ 2 ^ 32) };
 }
 

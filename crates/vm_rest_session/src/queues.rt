@@ -39,7 +39,8 @@ pub fn format_at(queues: &[Queue], place: usize) -> Fmt
 #[tactic(auto, using(std::proofs::lemmas::List::set_past))]
 pub fn set_format_at(queues: &mut [Queue], place: usize, format: Fmt)
     requires { IsAdjusted format }
-    ensures { queues.new ≡ slice_set queues.old place (record (slice_index_or queues.old place opening_queue) { format = format }) }
+    ensures { queues.new ≡ slice_set queues.old place
+        (record (slice_index_or queues.old place opening_queue) { format = format }) }
 {
     if place < queues.len() {
         let queue = &mut queues[place];
@@ -83,7 +84,8 @@ pub fn kind_at(queues: &[Queue], place: usize) -> u32
 
 /// The length of the buffer with an index, in the queue at a place, in bytes.
 pub fn length_at(queues: &[Queue], place: usize, index: u32) -> Option<u32>
-    ensures value { result ≡ slice_get (slice_index_or queues.now place opening_queue).lengths index }
+    ensures value { result ≡ slice_get
+        (slice_index_or queues.now place opening_queue).lengths index }
     ensures few { IfSome result (λ _. index < 32) }
 {
     match queues.get(place) {
@@ -106,8 +108,10 @@ pub fn renew_at(
     requires count { count ≤ 32 }
     requires made { made + 32 ≤ 2 ^ 32 }
     requires room { vec_len back.old + 32 ≤ vec_capacity back.old }
-    ensures queues { queues.new ≡ slice_set queues.old place (renewed_queue (slice_index_or queues.old place opening_queue) kind count made) }
-    ensures memories { back.new.items ≡ back.old.items ++ memories (slice_index_or queues.old place opening_queue).queued }
+    ensures queues { queues.new ≡ slice_set queues.old place
+        (renewed_queue (slice_index_or queues.old place opening_queue) kind count made) }
+    ensures memories { back.new.items ≡ back.old.items ++
+        memories (slice_index_or queues.old place opening_queue).queued }
     ensures few { vec_len back.new ≤ vec_len back.old + 32 }
     ensures room { vec_capacity back.new ≡ vec_capacity back.old }
 {
@@ -132,7 +136,9 @@ pub fn stop_all(queues: &mut [Queue], back: &mut Vec<Held>)
 /// The tag and the length of the frame that is mapped from an offset, among those of the queues of
 /// these types, which are the queues of the session of this id.
 pub fn find_in(queues: &[Queue], types: &[u32], id: u32, offset: u32) -> Option<(u64, u32)>
-    ensures { result ≡ frame_at offset (flat_map (λ t. frames_of id t (slice_index_or queues.now (place_in types.now t) opening_queue)) types.now) }
+    ensures { result ≡ frame_at offset (flat_map
+        (λ t. frames_of id t (slice_index_or queues.now
+        (place_in types.now t) opening_queue)) types.now) }
 {
     for kind in types {
         let found = find_at(queues, place_in(types, *kind), id, *kind, offset);
@@ -145,7 +151,8 @@ pub fn find_in(queues: &[Queue], types: &[u32], id: u32, offset: u32) -> Option<
 
 // The same of the queue at a place, which is of type `t`.
 fn find_at(queues: &[Queue], place: usize, id: u32, t: u32, offset: u32) -> Option<(u64, u32)>
-    ensures { result ≡ frame_at offset (frames_of id t (slice_index_or queues.now place opening_queue)) }
+    ensures { result ≡ frame_at offset (frames_of id t
+        (slice_index_or queues.now place opening_queue)) }
 {
     match queues.get(place) {
         Some(queue) => queue.frame_at(id, t, offset),

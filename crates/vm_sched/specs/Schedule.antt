@@ -15,12 +15,13 @@ place_chosen x n = (x / 2 ^ 33) % n
 abbrev pub Chooses : ℕ → WorldState → Step → Type 0
 Chooses x w s = slice_get (enabled w) (place_chosen x (length (enabled w))) ≡ Some s
 
--- From a world and a state of the generator these steps are the schedule's: each is the one that the next state chooses
--- in its world, as long as a line isn't answered; then the run ends.
+-- From a world and a state of the generator these steps are the schedule's: each is the one that
+-- the next state chooses in its world, as long as a line isn't answered; then the run ends.
 abbrev pub Schedules : List Step → WorldState → ℕ → WorldState → Type 0
 Schedules [] w x w' = IsDone w × (w' ≡ w)
 Schedules (s ∷ ss) w x w' =
-    (¬ IsDone w) × Chooses (next_state x) w s × ((next : WorldState) × Steps w s next × Schedules ss next (next_state x) w')
+    (¬ IsDone w) × Chooses (next_state x) w s ×
+    ((next : WorldState) × Steps w s next × Schedules ss next (next_state x) w')
 
 -- the seed's schedule leads from the one world to the other
 abbrev pub IsScheduled : WorldState → ℕ → WorldState → Type 0

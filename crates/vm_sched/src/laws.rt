@@ -7,10 +7,12 @@ ghost use Rattle.vm_world.specs.World.{WorldState, IsOpening, Leads, statement_c
 ghost use Rattle.vm_world.specs.declared.step.Step.{Step};
 ghost use Rattle.vm_sched.specs.Schedule.{Schedules};
 
-/// The steps of a schedule lead from the one world to the other. So of the world before the first line of a script that was
-/// read no schedule has more than 12 for each statement.
+/// The steps of a schedule lead from the one world to the other. So of the world before the first
+/// line of a script that was read no schedule has more than 12 for each statement.
 pub fn schedules_lead()
-    ensures leads { (w last : WorldState) → (ss : List Step) → (x : ℕ) → Schedules ss w x last → Leads w ss last }
-    ensures few { (script : ScriptLines) → (w last : WorldState) → (ss : List Step) → (x : ℕ) → IsReadScript script → IsOpening script w →
+    ensures leads { (w last : WorldState) → (ss : List Step) → (x : ℕ) → Schedules ss w x last →
+        Leads w ss last }
+    ensures few { (script : ScriptLines) → (w last : WorldState) → (ss : List Step) → (x : ℕ) →
+        IsReadScript script → IsOpening script w →
         Schedules ss w x last → length ss ≤ 12 * statement_count script }
 {}

@@ -32,16 +32,16 @@ abbrev pub declares : Call → Bool
 declares (OpenHandle nonblock) = true
 declares call = false
 
--- The handle that a name stands for, by whether the line declares it, and by its place among the names that
--- are declared: a new name is that of the next handle.
+-- The handle that a name stands for, by whether the line declares it, and by its place among the
+-- names that are declared: a new name is that of the next handle.
 abbrev pub handle_by : ℕ → Bool → Option ℕ → Result ℕ ScriptKind
 handle_by next true None = Ok next
 handle_by next true (Some h) = Err OpenTwice
 handle_by next false None = Err NotDeclared
 handle_by next false (Some h) = Ok h
 
--- The handle that a statement is on. Its name of memory is judged by those that earlier lines declare in that
--- handle.
+-- The handle that a statement is on. Its name of memory is judged by those that earlier lines
+-- declare in that handle.
 abbrev pub handle_of : ProcessLines → Statement → Result ℕ ScriptKind
 handle_of p s =
     and_then (handle_by (length p.handles) (declares s.call) (place_from 0 s.handle p.handles))
@@ -69,7 +69,8 @@ with_words p number words =
 
 -- the same, where a line that isn't built has that fault before any other
 abbrev pub with_built_words : ProcessLines → ℕ → List (List ℕ) → Result ProcessLines ScriptKind
-with_built_words p number words = if is_built_line words then with_words p number words else Err NotBuilt
+with_built_words p number words =
+    if is_built_line words then with_words p number words else Err NotBuilt
 
 -- ---- scripts
 
@@ -86,7 +87,8 @@ with_line p number line =
 -- the process with these lines, numbered from this number on, or the first faulty line's fault
 abbrev pub with_lines : ProcessLines → ℕ → List (List ℕ) → Result ProcessLines ScriptFault
 with_lines p number [] = Ok p
-with_lines p number (line ∷ lines) = and_then (with_line p number line) (λ q. with_lines q (number + 1) lines)
+with_lines p number (line ∷ lines) =
+    and_then (with_line p number line) (λ q. with_lines q (number + 1) lines)
 
 abbrev pub as_script : Result ProcessLines ScriptFault → Result ScriptLines ScriptFault
 as_script (Ok p) = Ok (record { model = Capture; processes = p ∷ [] })

@@ -41,8 +41,10 @@ memories_of handle ls = flat_map (λ l. declared_on handle l.what) ls
 -- what is wrong with a name of memory, by the names that are declared before it
 abbrev pub mention_check : Mention → List (List ℕ) → Result (Unit {0}) ScriptKind
 mention_check Nothing names = Ok tt
-mention_check (Declares name) names = if is_some (place_from 0 name names) then Err OpenTwice else Ok tt
-mention_check (Wants name) names = if is_some (place_from 0 name names) then Ok tt else Err NotDeclared
+mention_check (Declares name) names =
+    if is_some (place_from 0 name names) then Err OpenTwice else Ok tt
+mention_check (Wants name) names =
+    if is_some (place_from 0 name names) then Ok tt else Err NotDeclared
 
 -- these are, handle by handle, the names of memory that lines declare
 abbrev pub AreMemories : List (List (List ℕ)) → List Line → Type 0

@@ -11,8 +11,9 @@ use Rattle.vm_script.specs.Words.{name_in, number_in, code_in}
 
 -- ---- places
 
--- What a word is wanted for: the name of a mapping or of user memory, a buffer type, a kind of memory, any
--- number, a number from one to another, a picture format's code, bytes, or just this word.
+-- What a word is wanted for: the name of a mapping or of user memory, a buffer type, a kind of
+-- memory, any number, a number from one to another, a picture format's code, bytes, or just this
+-- word.
 pub data Place : Type 0 where
   Memory : Place
   BufType : Place
@@ -85,19 +86,23 @@ pub record Taken : Type 0 where
   pub left : List (List Place)
 
 -- one form more, of which the word has this outcome and which has these places behind it
-abbrev pub or_taken : Result Value ScriptKind → List Place → Result Taken ScriptKind → Result Taken ScriptKind
+abbrev pub or_taken : Result Value ScriptKind → List Place → Result Taken ScriptKind →
+    Result Taken ScriptKind
 or_taken (Ok v) places (Ok taken) = Ok (record { value = v; left = places ∷ taken.left })
 or_taken (Ok v) places (Err kind) = Ok (record { value = v; left = places ∷ [] })
 or_taken (Err kind) places (Ok taken) = Ok taken
 or_taken (Err kind) places (Err other) = Err kind
 
--- A word by the forms that are left. Where none of them has a value for it, the fault is what the first finds.
+-- A word by the forms that are left. Where none of them has a value for it, the fault is what the
+-- first finds.
 abbrev pub taken_by : List (List Place) → List ℕ → Result Taken ScriptKind
 taken_by [] word = Err Word
 taken_by ([] ∷ forms) word = taken_by forms word
-taken_by ((place ∷ places) ∷ forms) word = or_taken (value_in place word) places (taken_by forms word)
+taken_by ((place ∷ places) ∷ forms) word =
+    or_taken (value_in place word) places (taken_by forms word)
 
--- the values of words by forms: each word is judged by those that have a value for every word before it
+-- the values of words by forms: each word is judged by those that have a value for every word
+-- before it
 abbrev pub values_by : List (List Place) → List (List ℕ) → Result (List Value) ScriptKind
 values_by forms [] = Ok []
 values_by forms (word ∷ words) =
@@ -107,4 +112,5 @@ values_by forms (word ∷ words) =
 -- the parts in their order, each there or not
 abbrev pub each_optional : List (List Place) → List (List Place)
 each_optional [] = [] ∷ []
-each_optional (part ∷ parts) = map (λ more. part ++ more) (each_optional parts) ++ each_optional parts
+each_optional (part ∷ parts) =
+    map (λ more. part ++ more) (each_optional parts) ++ each_optional parts

@@ -25,7 +25,8 @@ Gives expected (Err (Fault f)) = expected ≡ Err f
 Gives expected (Err Memory) = Unit {0}
 
 -- the process becomes the expected one, unless memory ran out
-abbrev pub Becomes : Result ProcessLines ScriptFault → ProcessLines → Result (Unit {0}) ScriptError → Type 0
+abbrev pub Becomes : Result ProcessLines ScriptFault → ProcessLines →
+    Result (Unit {0}) ScriptError → Type 0
 Becomes expected p (Ok done) = expected ≡ Ok p
 Becomes expected p (Err (Fault f)) = expected ≡ Err f
 Becomes expected p (Err Memory) = Unit {0}
@@ -86,7 +87,8 @@ IsBuilt (Subscribe e) = Where (Of Verb.Subscribe) (Fits32 e)
 IsBuilt (Unsubscribe e) = Where (Of Verb.Unsubscribe) (Fits32 e)
 IsBuilt DqEvent = Where (Of Verb.DqEvent) (Unit {0})
 
--- the call on this handle is one that is built, on a handle that has a name, and the echo reads as it
+-- the call on this handle is one that is built, on a handle that has a name, and the echo reads as
+-- it
 pub record IsReadCall (names : List (List ℕ)) (echo : List ℕ) (h : ℕ) (call : Call) : Type 0 where
   pub within : h < length names
   pub built : IsBuilt call
@@ -109,24 +111,27 @@ abbrev pub opens_in : List Line → ℕ
 opens_in [] = 0
 opens_in (l ∷ ls) = opens l.what + opens_in ls
 
--- behind lines that opened so many handles: an open line opens the next, any other line is on one of them
+-- behind lines that opened so many handles: an open line opens the next, any other line is on one
+-- of them
 abbrev pub Fits : ℕ → LineKind → Type 0
 Fits opened (OnHandle h (OpenHandle nonblock)) = h ≡ opened
 Fits opened (OnHandle h call) = h < opened
 Fits opened (Raw chain) = ⊥
 
--- the lines, behind lines that opened so many handles, open one after the other, and ask of those that are opened
+-- the lines, behind lines that opened so many handles, open one after the other, and ask of those
+-- that are opened
 abbrev pub InOrder : ℕ → List Line → Type 0
 InOrder opened [] = Unit {0}
 InOrder opened (l ∷ ls) = Fits opened l.what × InOrder (opened + opens l.what) ls
 
--- Behind these lines, the name of memory in a call on a handle: one that the call declares is new in the handle,
--- any other was declared there.
+-- Behind these lines, the name of memory in a call on a handle: one that the call declares is new
+-- in the handle, any other was declared there.
 abbrev pub FitsNames : List Line → LineKind → Type 0
 FitsNames before (OnHandle h call) = mention_check (mention call) (memories_of h before) ≡ Ok tt
 FitsNames before (Raw chain) = Unit {0}
 
--- the lines, behind these, declare each name of memory once in its handle, and before any line that wants it
+-- the lines, behind these, declare each name of memory once in its handle, and before any line that
+-- wants it
 abbrev pub DeclareInOrder : List Line → List Line → Type 0
 DeclareInOrder before [] = Unit {0}
 DeclareInOrder before (l ∷ ls) = FitsNames before l.what × DeclareInOrder (before ++ l ∷ []) ls

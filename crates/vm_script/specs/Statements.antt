@@ -42,7 +42,8 @@ forms_of QBuf = map (λ more. BufType ∷ Count ∷ more) (each_optional extras)
 forms_of StreamOn = (BufType ∷ []) ∷ []
 forms_of StreamOff = (BufType ∷ []) ∷ []
 forms_of DqBuf = (BufType ∷ []) ∷ []
-forms_of Mmap = (Memory ∷ BufType ∷ Count ∷ []) ∷ (Memory ∷ BufType ∷ Count ∷ This (codes "ro") ∷ []) ∷ []
+forms_of Mmap =
+    (Memory ∷ BufType ∷ Count ∷ []) ∷ (Memory ∷ BufType ∷ Count ∷ This (codes "ro") ∷ []) ∷ []
 forms_of Munmap = (Memory ∷ []) ∷ []
 forms_of Read = (Memory ∷ Count ∷ Between 1 256 ∷ []) ∷ []
 forms_of Hash = (Memory ∷ []) ∷ []
@@ -61,7 +62,8 @@ name_among (v ∷ vs) = name_among vs
 -- the number behind this word, or 0 where the word isn't there
 abbrev pub number_behind : List ℕ → List Value → ℕ
 number_behind word [] = 0
-number_behind word (Is this ∷ Counts n ∷ vs) = if bytes_eq this word then n else number_behind word vs
+number_behind word (Is this ∷ Counts n ∷ vs) =
+    if bytes_eq this word then n else number_behind word vs
 number_behind word (v ∷ vs) = number_behind word vs
 
 -- what stands behind the index of a `qbuf`
@@ -84,8 +86,10 @@ asked Close [] = Some Asks.CloseHandle
 asked QueryCap [] = Some Asks.QueryCap
 asked EnumFmt (Counts t ∷ Counts i ∷ []) = Some (Asks.EnumFmt t i)
 asked GFmt (Counts t ∷ []) = Some (Asks.GFmt t)
-asked TryFmt (Counts t ∷ Counts f ∷ Counts w ∷ Counts h ∷ []) = Some (Asks.TryFmt t (record { 0 = f }) w h)
-asked SFmt (Counts t ∷ Counts f ∷ Counts w ∷ Counts h ∷ []) = Some (Asks.SFmt t (record { 0 = f }) w h)
+asked TryFmt (Counts t ∷ Counts f ∷ Counts w ∷ Counts h ∷ []) =
+    Some (Asks.TryFmt t (record { 0 = f }) w h)
+asked SFmt (Counts t ∷ Counts f ∷ Counts w ∷ Counts h ∷ []) =
+    Some (Asks.SFmt t (record { 0 = f }) w h)
 asked EnumInput (Counts i ∷ []) = Some (Asks.EnumInput i)
 asked GInput [] = Some Asks.GInput
 asked SInput (Counts i ∷ []) = Some (Asks.SInput i)
@@ -137,17 +141,19 @@ on handle call =
     and_then (ok_or (name_in handle) Name)
     (λ h. and_then call (λ c. Ok (record { handle = h; call = c })))
 
--- The statement of a verb and the words behind it, or the first fault. How many words there are comes before what
--- they are.
+-- The statement of a verb and the words behind it, or the first fault. How many words there are
+-- comes before what they are.
 abbrev pub statement_by : Verb → List (List ℕ) → Result Statement ScriptKind
 statement_by verb [] = Err Word
 statement_by verb (handle ∷ words) =
-    if length (forms_with (length words) verb) == 0 then Err Word else on handle (call_in verb words)
+    if length (forms_with (length words) verb) == 0 then Err Word
+    else on handle (call_in verb words)
 
 -- the statement that a line's words are, or the first fault that the line has by itself
 abbrev pub statement_in : List (List ℕ) → Result Statement ScriptKind
 statement_in [] = Err Word
-statement_in (first ∷ words) = and_then (ok_or (verb_of first) Word) (λ verb. statement_by verb words)
+statement_in (first ∷ words) =
+    and_then (ok_or (verb_of first) Word) (λ verb. statement_by verb words)
 
 -- the same, where a line that isn't built has that fault before any other
 abbrev pub built_statement_in : List (List ℕ) → Result Statement ScriptKind
@@ -194,7 +200,8 @@ call_numbers Asks.DqEvent = 26 ∷ []
 
 -- the statement is this call on the handle of this name
 abbrev pub is_statement : List ℕ → Call → Result Statement ScriptKind → Bool
-is_statement name call (Ok s) = bytes_eq s.handle name && bytes_eq (call_numbers s.call) (call_numbers call)
+is_statement name call (Ok s) =
+    bytes_eq s.handle name && bytes_eq (call_numbers s.call) (call_numbers call)
 is_statement name call (Err kind) = false
 
 -- the text reads as this call on the handle of this name

@@ -49,11 +49,12 @@ verb_of word = find (λ v. bytes_eq (word_of v) word) verbs
 
 -- ---- what is built
 
--- The form of a verb's line, by the words behind the verb: that of the verb, but for an `open` of three words and
--- a `qbuf` with `user` behind the index.
+-- The form of a verb's line, by the words behind the verb: that of the verb, but for an `open` of
+-- three words and a `qbuf` with `user` behind the index.
 abbrev pub form_in : Verb → List (List ℕ) → Form
 form_in Open (handle ∷ key ∷ []) = Nonblock
-form_in QBuf (handle ∷ type ∷ index ∷ key ∷ more) = if bytes_eq key (codes "user") then User else Of QBuf
+form_in QBuf (handle ∷ type ∷ index ∷ key ∷ more) =
+    if bytes_eq key (codes "user") then User else Of QBuf
 form_in verb words = Of verb
 
 -- the table of what is built

@@ -12,7 +12,8 @@ onto_first b (piece ∷ pieces) = (b ∷ piece) ∷ pieces
 -- the pieces between the bytes that part them
 abbrev pub pieces_by : (ℕ → Bool) → List ℕ → List (List ℕ)
 pieces_by parts [] = [] ∷ []
-pieces_by parts (b ∷ bs) = if parts b then [] ∷ pieces_by parts bs else onto_first b (pieces_by parts bs)
+pieces_by parts (b ∷ bs) =
+    if parts b then [] ∷ pieces_by parts bs else onto_first b (pieces_by parts bs)
 
 -- a newline
 abbrev pub ends_line : ℕ → Bool
@@ -26,7 +27,8 @@ abbrev pub is_empty : List ℕ → Bool
 is_empty [] = true
 is_empty (b ∷ bs) = false
 
--- The lines of bytes. Where the last one ends at a newline, an empty one follows, which has no words.
+-- The lines of bytes. Where the last one ends at a newline, an empty one follows, which has no
+-- words.
 abbrev pub lines_in : List ℕ → List (List ℕ)
 lines_in bytes = pieces_by ends_line bytes
 
@@ -60,7 +62,8 @@ begins_lower (b ∷ bs) = is_lower b
 
 -- 1 to 8 lower-case letters and digits, a letter first
 abbrev pub is_name : List ℕ → Bool
-is_name word = begins_lower word && list_all (λ b. is_lower b || is_digit b) word && nat_le (length word) 8
+is_name word =
+    begins_lower word && list_all (λ b. is_lower b || is_digit b) word && nat_le (length word) 8
 
 abbrev pub name_in : List ℕ → Option (List ℕ)
 name_in word = if is_name word then Some word else None
@@ -78,7 +81,9 @@ is_digits most word = nat_le 1 (length word) && nat_le (length word) most && lis
 
 -- the number that a word of 1 to so many decimal digits writes, where it is at most the limit
 abbrev pub number_in : ℕ → ℕ → List ℕ → Option ℕ
-number_in most limit word = if is_digits most word && nat_le (number_after 0 word) limit then Some (number_after 0 word) else None
+number_in most limit word =
+    if is_digits most word && nat_le (number_after 0 word) limit then Some (number_after 0 word)
+    else None
 
 -- ---- codes
 
@@ -87,4 +92,5 @@ is_visible b = nat_le 33 b && nat_le b 126
 
 -- a picture format's code: four visible bytes, as a little-endian number
 abbrev pub code_in : List ℕ → Option ℕ
-code_in word = if (length word == 4) && list_all is_visible word then Some (from_le_bytes w32 word) else None
+code_in word =
+    if (length word == 4) && list_all is_visible word then Some (from_le_bytes w32 word) else None

@@ -1,4 +1,5 @@
-//! What may stand behind the index of a `qbuf`: `user U`, `used B` and `ts N`, in this order, each optional.
+//! What may stand behind the index of a `qbuf`: `user U`, `used B` and `ts N`, in this order, each
+//! optional.
 
 ghost use Rattle.std.specs.Prelude.{◌≡◌, [], ◌∷◌, Ok};
 ghost use Rattle.vm_script.specs.Statements.{extras, number_extras, extras_in};
@@ -57,7 +58,8 @@ fn both_numbers(
     ts_key: &[u8],
     ts: &[u8],
 ) -> Result<Extras, ScriptKind>
-    ensures { result ≡ extras_in number_extras (used_key.now ∷ used.now ∷ ts_key.now ∷ ts.now ∷ []) }
+    ensures { result ≡ extras_in number_extras
+        (used_key.now ∷ used.now ∷ ts_key.now ∷ ts.now ∷ []) }
 {
     this(USED, used_key)?;
     let used = count_of(used)?;
@@ -110,7 +112,8 @@ pub fn all_extras(
     ts_key: &[u8],
     ts: &[u8],
 ) -> Result<Extras, ScriptKind>
-    ensures { result ≡ extras_in extras (user_key.now ∷ user.now ∷ used_key.now ∷ used.now ∷ ts_key.now ∷ ts.now ∷ []) }
+    ensures { result ≡ extras_in extras
+        (user_key.now ∷ user.now ∷ used_key.now ∷ used.now ∷ ts_key.now ∷ ts.now ∷ []) }
 {
     this(USER, user_key)?;
     let user = Some(name_of(user)?);

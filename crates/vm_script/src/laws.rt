@@ -10,11 +10,14 @@ ghost use Rattle.vm_script.specs.Script.{ProcessLines, ScriptLines};
 /// handle that has a name. Its handles are opened one after the other, each before it is asked
 /// anything. A name of memory is declared once in its handle, and before any line that wants it.
 pub fn scripts_are_of_one_process()
-    ensures { (bytes : List ℕ) → (s : ScriptLines) → script_of bytes ≡ Ok s → (p : ProcessLines) × (s ≡ record { model = Capture; processes = p ∷ [] }) × IsReadProcess p }
+    ensures { (bytes : List ℕ) → (s : ScriptLines) → script_of bytes ≡ Ok s → (p : ProcessLines) ×
+        (s ≡ record { model = Capture; processes = p ∷ [] }) × IsReadProcess p }
 {}
 
 /// A text reads as one call on one handle at most, and the call is one that is built.
 pub fn texts_read_as_one_call()
-    ensures built { (text name : List ℕ) → (call : Call) → reads_as text name call ≡ true → IsBuilt call }
-    ensures one { (text name other : List ℕ) → (call next : Call) → reads_as text name call ≡ true → reads_as text other next ≡ true → (name ≡ other) × (call ≡ next) }
+    ensures built { (text name : List ℕ) → (call : Call) → reads_as text name call ≡ true →
+        IsBuilt call }
+    ensures one { (text name other : List ℕ) → (call next : Call) → reads_as text name call ≡ true →
+        reads_as text other next ≡ true → (name ≡ other) × (call ≡ next) }
 {}

@@ -36,7 +36,8 @@ fn add_statement(
     words: &[&[u8]],
     statement: Statement,
 ) -> Result<(), ScriptError>
-    ensures { Becomes (at_line number (with_asked process.old number (join_with_byte 32 (map (λ word. word.now) words.now)) statement)) process.new result }
+    ensures { Becomes (at_line number (with_asked process.old number
+        (join_with_byte 32 (map (λ word. word.now) words.now)) statement)) process.new result }
 {
     match process.handle_of(&statement) {
         Ok(h) => {
@@ -59,7 +60,8 @@ pub fn add_words(
     number: u32,
     words: &[&[u8]],
 ) -> Result<(), ScriptError>
-    ensures { Becomes (at_line number (with_words process.old number (map (λ word. word.now) words.now))) process.new result }
+    ensures { Becomes (at_line number (with_words process.old number
+        (map (λ word. word.now) words.now))) process.new result }
 {
     match statement_of(words) {
         Ok(statement) => add_statement(alloc, process, number, words, statement),

@@ -61,13 +61,15 @@ impl Session {
         requires room { puts_back code ≡ true → vec_len held.old + 64 ≤ vec_capacity held.old }
         requires quiet { stops self.old code payload.old ≡ true → is_quiet self.old ≡ true }
         requires comes { Comes self.old code payload.old held.old.items }
-        ensures ok { OnOk result (Answers (ioctl_row self.old code payload.old held.old.items) payload.new self.new) }
+        ensures ok { OnOk result
+            (Answers (ioctl_row self.old code payload.old held.old.items) payload.new self.new) }
         ensures err { IfErr result (λ e. MayRefuse
             (ioctl_row self.old code payload.old held.old.items) e) }
         ensures session_kept { OnErr result (self.new ≡ self.old) }
         ensures payload_kept { OnErr result (payload.new ≡ payload.old) }
         ensures held { OnOk result (held.new.items ≡
-            held_after code held.old.items (ioctl_row self.old code payload.old held.old.items).back) }
+            held_after code held.old.items
+            (ioctl_row self.old code payload.old held.old.items).back) }
         ensures held_kept { OnErr result (held.new.items ≡ held.old.items) }
         ensures capacity { vec_capacity held.new ≡ vec_capacity held.old }
         ensures size { length payload.new ≡ length payload.old }
@@ -95,7 +97,8 @@ impl Session {
             (ioctl_row self.old code request.now held.old.items) e) }
         ensures kept { OnErr result (self.new ≡ self.old) }
         ensures held { OnOk result (held.new.items ≡
-            held_after code held.old.items (ioctl_row self.old code request.now held.old.items).back) }
+            held_after code held.old.items
+            (ioctl_row self.old code request.now held.old.items).back) }
         ensures held_kept { OnErr result (held.new.items ≡ held.old.items) }
         ensures capacity { vec_capacity held.new ≡ vec_capacity held.old }
         ensures size { IfOk result (λ payload. length payload ≡ length request.now) }

@@ -121,7 +121,8 @@ impl Session {
     /// The event that gives back the buffer that the running job read, if it read one, with its
     /// memory.
     pub(crate) fn src_event(&self, r: &Running, good: bool, held: Option<Held>) -> Option<Unsent>
-        ensures { result ≡ option_map (λ b. returned self.now r.now good b b.bytesused held) r.now.src }
+        ensures { result ≡ option_map
+            (λ b. returned self.now r.now good b b.bytesused held) r.now.src }
     {
         match r.src {
             Some(buffer) => Some(self.returned(r, good, &buffer, buffer.bytesused, held)),

@@ -17,26 +17,32 @@ ghost use Rattle.vm_session.specs.Rows.{IoctlAnswer, ioctl_row, ioctl_outcome, e
 /// request's words. QUERYCAP and G_INPUT have no words.
 pub fn requests_are_read()
     ensures enumfmt { (s : SessionState) (t i : ℕ) (held : List Held) → t < 2 ^ 32 → i < 2 ^ 32 →
-        ioctl_row s IoctlCode.EnumFmt (fmtdesc_bytes (fmt_desc_request t i)) held ≡ enumfmt_row s t i }
+        ioctl_row s IoctlCode.EnumFmt (fmtdesc_bytes (fmt_desc_request t i)) held ≡
+        enumfmt_row s t i }
     ensures gfmt { (s : SessionState) (t : ℕ) (held : List Held) → t < 2 ^ 32 →
         ioctl_row s IoctlCode.GFmt (format_bytes (format_type_request t)) held ≡ gfmt_row s t }
     ensures tryfmt { (s : SessionState) (t : ℕ) (f : FourCc) (w h : ℕ) (held : List Held) →
         t < 2 ^ 32 → f.0 < 2 ^ 32 → w < 2 ^ 32 → h < 2 ^ 32 →
-        ioctl_row s IoctlCode.TryFmt (format_bytes (format_request t f w h)) held ≡ tryfmt_row s t f w h }
+        ioctl_row s IoctlCode.TryFmt (format_bytes (format_request t f w h)) held ≡
+        tryfmt_row s t f w h }
     ensures sfmt { (s : SessionState) (t : ℕ) (f : FourCc) (w h : ℕ) (held : List Held) →
         t < 2 ^ 32 → f.0 < 2 ^ 32 → w < 2 ^ 32 → h < 2 ^ 32 →
-        ioctl_row s IoctlCode.SFmt (format_bytes (format_request t f w h)) held ≡ sfmt_row s t f w h }
+        ioctl_row s IoctlCode.SFmt (format_bytes (format_request t f w h)) held ≡
+        sfmt_row s t f w h }
     ensures enuminput { (s : SessionState) (i : ℕ) (held : List Held) → i < 2 ^ 32 →
         ioctl_row s IoctlCode.EnumInput (input_bytes (input_request i)) held ≡ enuminput_row s i }
     ensures sinput { (s : SessionState) (i : ℕ) (held : List Held) → i < 2 ^ 32 →
         ioctl_row s IoctlCode.SInput (le i) held ≡ sinput_row s i }
     ensures reqbufs { (s : SessionState) (t m n : ℕ) (held : List Held) → t < 2 ^ 32 → m < 2 ^ 32 →
         n < 2 ^ 32 →
-        ioctl_row s IoctlCode.ReqBufs (request_bytes (reqbufs_request t m n)) held ≡ reqbufs_row s t m n }
+        ioctl_row s IoctlCode.ReqBufs (request_bytes (reqbufs_request t m n)) held ≡
+        reqbufs_row s t m n }
     ensures querybuf { (s : SessionState) (t i : ℕ) (held : List Held) → t < 2 ^ 32 → i < 2 ^ 32 →
-        ioctl_row s IoctlCode.QueryBuf (buffer_bytes (querybuf_request t i)) held ≡ querybuf_row s t i }
+        ioctl_row s IoctlCode.QueryBuf (buffer_bytes (querybuf_request t i)) held ≡
+        querybuf_row s t i }
     ensures qbuf { (s : SessionState) (b : QueuedBuffer) (held : List Held) → IsQueuedBuffer b →
-        ioctl_row s IoctlCode.QBuf (buffer_bytes (qbuf_request s.model b)) held ≡ qbuf_row s (qbuf_request s.model b) held }
+        ioctl_row s IoctlCode.QBuf (buffer_bytes (qbuf_request s.model b)) held ≡
+        qbuf_row s (qbuf_request s.model b) held }
     ensures streamon { (s : SessionState) (t : ℕ) (held : List Held) → t < 2 ^ 32 →
         ioctl_row s IoctlCode.StreamOn (le t) held ≡ streamon_row s t }
     ensures streamoff { (s : SessionState) (t : ℕ) (held : List Held) → t < 2 ^ 32 →

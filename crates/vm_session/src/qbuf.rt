@@ -76,7 +76,8 @@ impl Session {
 
 // Whether the buffer is a source and has more bytes in use than its memory has.
 fn tells_more(model: v4l_const::Model, asked: &BufferRec) -> bool
-    ensures { result ≡ (is_source model asked.now.kind && nat_lt asked.now.length asked.now.bytesused) }
+    ensures { result ≡ (is_source model asked.now.kind &&
+        nat_lt asked.now.length asked.now.bytesused) }
 {
     is_source(model, asked.kind) && asked.length < asked.bytesused
 }

@@ -112,7 +112,8 @@ pub fn kind_at(queues: &[Queue], place: usize) -> u32
 
 /// The length of the buffer with an index, in the queue at a place, in bytes.
 pub fn length_at(queues: &[Queue], place: usize, index: u32) -> Option<u32>
-    ensures value { result ≡ slice_get (slice_index_or queues.now place opening_queue).lengths index }
+    ensures value { result ≡ slice_get
+        (slice_index_or queues.now place opening_queue).lengths index }
     ensures few { IfSome result (λ _. index < 32) }
 {
     match queues.get(place) {

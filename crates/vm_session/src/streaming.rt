@@ -39,7 +39,8 @@ impl Session {
     pub fn begin(&mut self, number: u64) -> Option<Job>
         ensures exactly { is_some result ≡ can_begin self.old }
         ensures job { IfSome result (λ job. next_job self.old number ≡ Some job) }
-        ensures session { self.new ≡ (if can_begin self.old then begun self.old number else self.old) }
+        ensures session { self.new ≡
+            (if can_begin self.old then begun self.old number else self.old) }
     {
         if !self.can_begin() {
             return None;

@@ -1,5 +1,5 @@
--- The records that calls and messages on buffers and events carry: in a request what is asked for, in an answer or a
--- message what is told. All else in them is 0.
+-- The records that calls and messages on buffers and events carry: in a request what is asked for,
+-- in an answer or a message what is told. All else in them is 0.
 use Rattle.std.specs.Prelude.{ℕ, ◌<◌, ◌+◌, ◌*◌, ◌/◌, ◌%◌, ◌^◌, ◌==◌, if◌then◌else◌, Option, Some, None, List, ◌++◌, take, drop, replicate}
 use Rattle.v4l_const.specs.BufFlags.{error_flag}
 use Rattle.v4l_const.specs.declared.model.Model.{Model}
@@ -27,11 +27,13 @@ buffer_offset t i = offsets_from t + i * BUFFER_STEP
 -- ---- the buffers of a queue (REQBUFS)
 
 unfoldable pub reqbufs_request : ℕ → ℕ → ℕ → RequestBuffers
-reqbufs_request t memory count = record { count = count; kind = t; memory = memory; capabilities = 0 }
+reqbufs_request t memory count =
+    record { count = count; kind = t; memory = memory; capabilities = 0 }
 
 -- so many buffers are there, and this is what the queues of the model can do
 unfoldable pub reqbufs_answer : Model → ℕ → ℕ → ℕ → RequestBuffers
-reqbufs_answer model t memory count = record { count = count; kind = t; memory = memory; capabilities = buffer_capabilities model }
+reqbufs_answer model t memory count =
+    record { count = count; kind = t; memory = memory; capabilities = buffer_capabilities model }
 
 -- ---- one buffer (QUERYBUF)
 
@@ -57,8 +59,8 @@ blank_buffer t i = record {
 unfoldable pub querybuf_request : ℕ → ℕ → BufferRec
 querybuf_request t i = blank_buffer t i
 
--- Its memory kind and length, the model's timestamps, and where it is mapped from, if it may be mapped. What state it is in
--- isn't told.
+-- Its memory kind and length, the model's timestamps, and where it is mapped from, if it may be
+-- mapped. What state it is in isn't told.
 unfoldable pub querybuf_answer : Model → ℕ → ℕ → ℕ → ℕ → BufferRec
 querybuf_answer model t i memory len = record (blank_buffer t i) {
   flags = timestamp_flag model;
@@ -91,7 +93,8 @@ qbuf_request model b = record (blank_buffer b.kind b.index) {
 -- its numbers fit into their fields
 abbrev pub IsQueuedBuffer : QueuedBuffer → Type 0
 IsQueuedBuffer b =
-    (b.kind < 2 ^ 32) × (b.index < 2 ^ 32) × (b.bytesused < 2 ^ 32) × (b.timestamp < 2 ^ 64) × (b.memory < 2 ^ 32) × (b.m < 2 ^ 64)
+    (b.kind < 2 ^ 32) × (b.index < 2 ^ 32) × (b.bytesused < 2 ^ 32) × (b.timestamp < 2 ^ 64) ×
+    (b.memory < 2 ^ 32) × (b.m < 2 ^ 64)
     × (b.length < 2 ^ 32)
 
 -- the same, of the record that was asked with
@@ -146,7 +149,13 @@ frame_of event = number_at 0 event.u
 -- ---- the words of a record, by their offsets
 
 abbrev pub reqbufs_in : List ℕ → RequestBuffers
-reqbufs_in bytes = record { count = number_at 0 bytes; kind = number_at 4 bytes; memory = number_at 8 bytes; capabilities = number_at 12 bytes }
+reqbufs_in bytes =
+    record {
+      count = number_at 0 bytes;
+      kind = number_at 4 bytes;
+      memory = number_at 8 bytes;
+      capabilities = number_at 12 bytes;
+    }
 
 abbrev pub buffer_in : List ℕ → BufferRec
 buffer_in bytes = record {
@@ -167,4 +176,5 @@ buffer_in bytes = record {
 }
 
 abbrev pub subscription_in : List ℕ → Subscription
-subscription_in bytes = record { kind = number_at 0 bytes; id = number_at 4 bytes; flags = number_at 8 bytes }
+subscription_in bytes =
+    record { kind = number_at 0 bytes; id = number_at 4 bytes; flags = number_at 8 bytes }

@@ -3,8 +3,9 @@ use Rattle.std.specs.Prelude.{ℕ, List, Option, Result}
 use Rattle.vm_wire.specs.declared.command.CmdFault.{CmdFault}
 use Rattle.vm_wire.specs.declared.command.Command.{Command}
 
--- what a chain on the queue of commands asks: nothing that can be answered, since its table has a fault or there is
--- no room for a status; or else the command that its bytes spell, or their first fault
+-- what a chain on the queue of commands asks: nothing that can be answered, since its table has a
+-- fault or there is no room for a status; or else the command that its bytes spell, or their first
+-- fault
 pub data Ask : Type 0 where
   Unusable : Ask
   Judged : Result Command CmdFault → Ask

@@ -1,4 +1,5 @@
--- The records that calls carry: in a request what is asked for, in an answer what is told. All else in them is 0.
+-- The records that calls carry: in a request what is asked for, in an answer what is told. All else
+-- in them is 0.
 use Rattle.std.specs.Prelude.{ℕ, List, ◌++◌, length, replicate, ◌-◌, codes, slice_index_or}
 use Rattle.std.specs.Int.{to_le_bytes, w32}
 use Rattle.v4l_const.specs.declared.four_cc.FourCc.{FourCc}
@@ -36,22 +37,46 @@ capability_of m = record {
 
 -- the i-th format of the queues of type t
 unfoldable pub fmt_desc_request : ℕ → ℕ → FmtDesc
-fmt_desc_request t i = record { index = i; kind = t; flags = 0; description = replicate 32 0; pixelformat = 0 }
+fmt_desc_request t i =
+    record { index = i; kind = t; flags = 0; description = replicate 32 0; pixelformat = 0 }
 
 -- The description is the four letters of the code, of which the code is the little-endian number.
 unfoldable pub fmt_desc_answer : ℕ → ℕ → FourCc → FmtDesc
 fmt_desc_answer t i code =
-    record { index = i; kind = t; flags = 0; description = padded 32 (to_le_bytes w32 code.0); pixelformat = code.0 }
+    record {
+      index = i;
+      kind = t;
+      flags = 0;
+      description = padded 32 (to_le_bytes w32 code.0);
+      pixelformat = code.0;
+    }
 
 -- ---- the format of a queue (G_FMT, TRY_FMT, S_FMT)
 
 unfoldable pub format_request : ℕ → FourCc → ℕ → ℕ → FormatRec
 format_request t code w h =
-    record { kind = t; width = w; height = h; pixelformat = code.0; field = 0; bytesperline = 0; sizeimage = 0 }
+    record {
+      kind = t;
+      width = w;
+      height = h;
+      pixelformat = code.0;
+      field = 0;
+      bytesperline = 0;
+      sizeimage = 0;
+    }
 
 -- the type alone
 unfoldable pub format_type_request : ℕ → FormatRec
-format_type_request t = record { kind = t; width = 0; height = 0; pixelformat = 0; field = 0; bytesperline = 0; sizeimage = 0 }
+format_type_request t =
+    record {
+      kind = t;
+      width = 0;
+      height = 0;
+      pixelformat = 0;
+      field = 0;
+      bytesperline = 0;
+      sizeimage = 0;
+    }
 
 unfoldable pub format_answer : ℕ → Fmt → FormatRec
 format_answer t f = record {

@@ -14,7 +14,8 @@ use vm_num::le32;
 /// Source: own.
 pub const BUFFER_STEP: u32 = 0x0010_0000;
 
-/// The offset of the first buffer of the queue that the device reads, in bytes. Those of the other queue begin at 0.
+/// The offset of the first buffer of the queue that the device reads, in bytes. Those of the other
+/// queue begin at 0.
 ///
 /// Source: own.
 pub const OUTPUT_OFFSET: u32 = 0x0200_0000;
@@ -37,7 +38,8 @@ pub struct QueuedBuffer {
     pub timestamp: u64,
     /// Its memory kind.
     pub memory: u32,
-    /// Where its memory is: the offset of its mapping, or the address at which the first entry of the user's starts.
+    /// Where its memory is: the offset of its mapping, or the address at which the first entry of
+    /// the user's starts.
     pub m: u64,
     /// Its length, in bytes.
     pub length: u32,
@@ -137,8 +139,9 @@ pub fn querybuf_request(t: u32, i: u32) -> BufferRec
     blank_buffer(t, i)
 }
 
-/// What QUERYBUF answers: the memory kind and length of the buffer, where its timestamps come from, and the offset from
-/// which it is mapped, 0 where it isn't. In which state it is, the driver knows.
+/// What QUERYBUF answers: the memory kind and length of the buffer, where its timestamps come from,
+/// and the offset from which it is mapped, 0 where it isn't. In which state it is, the driver
+/// knows.
 ///
 /// Source: Linux V4L2, `struct v4l2_buffer`.
 #[tactic(auto, unfolding(crate::specs::Buffers::querybuf_answer))]
@@ -170,8 +173,8 @@ fn told_of(model: Model, t: u32, n: u64) -> u64
     }
 }
 
-/// What QBUF asks for, on a device of this model: the buffer is queued. The bytes and the timestamp of its picture are told
-/// where the device reads it.
+/// What QBUF asks for, on a device of this model: the buffer is queued. The bytes and the timestamp
+/// of its picture are told where the device reads it.
 ///
 /// Source: Linux V4L2, `struct v4l2_buffer`.
 #[tactic(auto, unfolding(crate::specs::Buffers::qbuf_request))]
@@ -215,8 +218,8 @@ fn buffer_flags(model: Model, is_bad: bool) -> u32
     model.timestamp_flag().0 + failed
 }
 
-/// The record of a buffer that the device gives back: what was told of its memory when it was queued, and what is told of
-/// its picture.
+/// The record of a buffer that the device gives back: what was told of its memory when it was
+/// queued, and what is told of its picture.
 ///
 /// Source: Linux V4L2, `struct v4l2_buffer`.
 #[tactic(auto, unfolding(crate::specs::Buffers::dequeued_buffer))]
@@ -237,7 +240,8 @@ pub fn dequeued_buffer(model: Model, queued: &BufferRec, note: &PictureNote) -> 
     }
 }
 
-/// What SUBSCRIBE_EVENT and UNSUBSCRIBE_EVENT ask for, and what they answer: the number of an event.
+/// What SUBSCRIBE_EVENT and UNSUBSCRIBE_EVENT ask for, and what they answer: the number of an
+/// event.
 ///
 /// Source: Linux V4L2, `struct v4l2_event_subscription`.
 #[tactic(auto, unfolding(crate::specs::Buffers::subscription_request))]
@@ -251,7 +255,8 @@ pub fn subscription_request(event: u32) -> Subscription
     }
 }
 
-/// The record of the event that a frame began: the frame's number, and its timestamp in microseconds.
+/// The record of the event that a frame began: the frame's number, and its timestamp in
+/// microseconds.
 ///
 /// Source: Linux V4L2, `struct v4l2_event`, `struct v4l2_event_frame_sync`.
 #[tactic(auto, unfolding(crate::specs::Buffers::frame_event))]

@@ -10,8 +10,8 @@ use crate::Payload;
 use v4l_const::{IoctlCode, MEMORY_USERPTR};
 use vm_num::{le32, le64, put32, put64};
 
-/// A command of the driver: its number, a pad, and then its fields. Numbers and pads have four bytes and addresses
-/// eight, little-endian.
+/// A command of the driver: its number, a pad, and then its fields. Numbers and pads have four
+/// bytes and addresses eight, little-endian.
 ///
 /// Source: own, after the sessions of the VIRTIO 1.4 draft's media device.
 #[derive(Clone, Copy, Debug, PartialEq, Eq)]
@@ -22,8 +22,8 @@ pub enum Command {
     CloseSession {
         session: u32,
     },
-    /// Makes a call of the session, with its payload. 16 bytes and the payload. Behind a `QBUF` of a user's memory
-    /// stand the entries of its scatter list, of 16 bytes each.
+    /// Makes a call of the session, with its payload. 16 bytes and the payload. Behind a `QBUF` of
+    /// a user's memory stand the entries of its scatter list, of 16 bytes each.
     Ioctl {
         session: u32,
         code: IoctlCode,
@@ -70,8 +70,8 @@ pub const MUNMAP: u32 = 5;
 /// Source: own.
 pub const WIRE_ROOM: usize = 304;
 
-/// Writes a command at the front of `out`, which has room for it, and answers how many bytes it took.
-/// What stands behind stays.
+/// Writes a command at the front of `out`, which has room for it, and answers how many bytes it
+/// took. What stands behind stays.
 pub fn encode_command(c: &Command, out: &mut [u8]) -> usize
     requires { length (command_bytes c.now) ≤ length out.old }
     ensures bytes { out.new ≡ command_bytes c.now ++ drop (length (command_bytes c.now)) out.old }
@@ -143,13 +143,14 @@ fn mapping_flags(writable: bool) -> u32
     u32::from(writable)
 }
 
-/// Reads a command whose reply has `writable` bytes of room. The content of pads is ignored, and so are
-/// bytes behind the command, but for scatter entries behind a `QBUF` of a user's memory, which have to be whole.
+/// Reads a command whose reply has `writable` bytes of room. The content of pads is ignored, and so
+/// are bytes behind the command, but for scatter entries behind a `QBUF` of a user's memory, which
+/// have to be whole.
 ///
 /// # Errors
-/// The first of the faults that applies: too few bytes for a number, an unknown number, too few bytes
-/// for the command's fields, an unknown code, too few bytes for the payload or a part of a scatter entry, too little
-/// room for the reply.
+/// The first of the faults that applies: too few bytes for a number, an unknown number, too few
+/// bytes for the command's fields, an unknown code, too few bytes for the payload or a part of a
+/// scatter entry, too little room for the reply.
 pub fn decode_command(b: &[u8], writable: u32) -> Result<Command, CmdFault>
     ensures exact { result ≡ judged b.now writable }
     ensures ok { IfOk result (λ c. Spells b.now writable c) }
@@ -184,7 +185,8 @@ pub fn decode_command(b: &[u8], writable: u32) -> Result<Command, CmdFault>
 /// Reads the call of an `IOCTL` whose session and code are there.
 fn decode_ioctl(b: &[u8], writable: u32) -> Result<Command, CmdFault>
     requires { 16 ≤ length b.now }
-    ensures { result ≡ judged_by (ioctl_fault (ioctl_of (number_at 12 b.now)) b.now writable) (ioctl_at (ioctl_of (number_at 12 b.now)) b.now) }
+    ensures { result ≡ judged_by (ioctl_fault (ioctl_of (number_at 12 b.now)) b.now writable)
+        (ioctl_at (ioctl_of (number_at 12 b.now)) b.now) }
 {
     let Some(code) = IoctlCode::of(le32(b, 12)) else {
         return Err(CmdFault::UnknownIoctl);

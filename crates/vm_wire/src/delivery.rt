@@ -1,7 +1,8 @@
 use crate::EventMsg;
 use vm_frame::Held;
 
-/// A message of the device on its way to the handle of its session, with the memory that comes with it.
+/// A message of the device on its way to the handle of its session, with the memory that comes with
+/// it.
 ///
 /// Source: own.
 #[derive(Drop)]

@@ -15,7 +15,8 @@ use vm_num::{le32, put32};
 /// Source: own, after the events of the VIRTIO 1.4 draft's media device.
 #[derive(Clone, Copy, Debug, PartialEq, Eq)]
 pub enum EventMsg {
-    /// The device is done with this buffer. 608 bytes, the last 512 being its planes, which aren't used.
+    /// The device is done with this buffer. 608 bytes, the last 512 being its planes, which aren't
+    /// used.
     Dequeued { session: u32, buffer: BufferRec },
     /// This event has happened. 144 bytes.
     Happened { session: u32, event: EventRec },
@@ -50,8 +51,8 @@ impl From<Short> for EventFault {
     }
 }
 
-/// Writes a message at the front of `out`, which has room for it, and answers how many bytes it took.
-/// What stands behind stays.
+/// Writes a message at the front of `out`, which has room for it, and answers how many bytes it
+/// took. What stands behind stays.
 pub fn encode_event(e: &EventMsg, out: &mut [u8]) -> usize
     requires { event_size e.now ≤ length out.old }
     ensures bytes { out.new ≡ event_bytes e.now ++ drop (event_size e.now) out.old }
@@ -102,11 +103,12 @@ fn put_planes(out: &mut [u8])
     out[8 + BUFFER_SIZE..DEQUEUED_SIZE].fill(0);
 }
 
-/// Reads a message. Bytes behind it are ignored, and so are those between the fields of its record and in its planes.
+/// Reads a message. Bytes behind it are ignored, and so are those between the fields of its record
+/// and in its planes.
 ///
 /// # Errors
-/// `UnknownKind` exactly where there are four bytes and their number is no message's; `Short` exactly where there are
-/// fewer than four bytes, or fewer than the message of this number has.
+/// `UnknownKind` exactly where there are four bytes and their number is no message's; `Short`
+/// exactly where there are fewer than four bytes, or fewer than the message of this number has.
 pub fn decode_event(b: &[u8]) -> Result<EventMsg, EventFault>
     ensures ok { IfOk result (λ e. SpellsEvent b.now e) }
     ensures only { (e : EventMsg) → SpellsEvent b.now e → result ≡ Ok e }

@@ -21,19 +21,23 @@ pub fn commands_are_decided()
     ensures { (bytes : List ℕ) (room : ℕ) → IsDecided bytes room }
 {}
 
-/// What is written goes into the room of its kind: that of a command and its reply, or the size of a message. A command's
-/// answer goes into the room of its reply with status 0.
+/// What is written goes into the room of its kind: that of a command and its reply, or the size of
+/// a message. A command's answer goes into the room of its reply with status 0.
 pub fn written_bytes_fit()
     ensures command { (c : Command) → IsCommand c → length (command_bytes c) ≤ WIRE_ROOM }
     ensures room { (c : Command) → IsCommand c → reply_size c ≤ WIRE_ROOM }
-    ensures reply { (c : Command) (r : Response) → Answers c r → length (response_bytes r) ≤ reply_size c }
+    ensures reply { (c : Command) (r : Response) → Answers c r →
+        length (response_bytes r) ≤ reply_size c }
     ensures message { (e : EventMsg) → IsEvent e → length (event_bytes e) ≡ event_size e }
 {}
 
-/// What is written of a command spells it, in any room for its reply, also with what may stand behind it.
+/// What is written of a command spells it, in any room for its reply, also with what may stand
+/// behind it.
 pub fn commands_are_read_again()
-    ensures alone { (c : Command) (room : ℕ) → IsCommand c → reply_size c ≤ room → Spells (command_bytes c) room c }
-    ensures before { (c : Command) (behind : List ℕ) (room : ℕ) → IsCommand c → MayFollow c behind → reply_size c ≤ room → Spells (command_bytes c ++ behind) room c }
+    ensures alone { (c : Command) (room : ℕ) → IsCommand c → reply_size c ≤ room →
+        Spells (command_bytes c) room c }
+    ensures before { (c : Command) (behind : List ℕ) (room : ℕ) → IsCommand c → MayFollow c behind →
+        reply_size c ≤ room → Spells (command_bytes c ++ behind) room c }
 {}
 
 /// What is written of a command's answer is read as that answer.
@@ -43,30 +47,41 @@ pub fn responses_are_read_again()
 
 /// What is written of a message spells it, whatever stands behind it.
 pub fn events_are_read_again()
-    ensures { (e : EventMsg) (behind : List ℕ) → IsEvent e → SpellsEvent (event_bytes e ++ behind) e }
+    ensures { (e : EventMsg) (behind : List ℕ) → IsEvent e →
+        SpellsEvent (event_bytes e ++ behind) e }
 {}
 
 /// A request on buffers or events whose numbers fit into their fields is read as what it asks for.
 pub fn buffer_requests_are_read()
     ensures reqbufs { (t memory count : ℕ) → t < 2 ^ 32 → memory < 2 ^ 32 → count < 2 ^ 32 →
-        reqbufs_in (request_bytes (reqbufs_request t memory count)) ≡ reqbufs_request t memory count }
-    ensures querybuf { (t i : ℕ) → t < 2 ^ 32 → i < 2 ^ 32 → buffer_in (buffer_bytes (querybuf_request t i)) ≡ querybuf_request t i }
-    ensures qbuf { (model : Model) (b : QueuedBuffer) → IsQueuedBuffer b → buffer_in (buffer_bytes (qbuf_request model b)) ≡ qbuf_request model b }
+        reqbufs_in (request_bytes (reqbufs_request t memory count)) ≡
+        reqbufs_request t memory count }
+    ensures querybuf { (t i : ℕ) → t < 2 ^ 32 → i < 2 ^ 32 →
+        buffer_in (buffer_bytes (querybuf_request t i)) ≡ querybuf_request t i }
+    ensures qbuf { (model : Model) (b : QueuedBuffer) → IsQueuedBuffer b →
+        buffer_in (buffer_bytes (qbuf_request model b)) ≡ qbuf_request model b }
     ensures subscription { (event : ℕ) → event < 2 ^ 32 →
-        subscription_in (subscription_bytes (subscription_request event)) ≡ subscription_request event }
+        subscription_in (subscription_bytes (subscription_request event)) ≡
+        subscription_request event }
 {}
 
-/// Each record of buffers or events that is laid out is read again, so each answer too. The answer to a QBUF is its request
-/// again, and an event's frame is read again.
+/// Each record of buffers or events that is laid out is read again, so each answer too. The answer
+/// to a QBUF is its request again, and an event's frame is read again.
 pub fn buffer_records_are_read_again()
-    ensures reqbufs { (r : RequestBuffers) → IsLaid request_size 0 (request_fields r) → reqbufs_in (request_bytes r) ≡ r }
-    ensures buffer { (r : BufferRec) → IsLaid buffer_size 0 (buffer_fields r) → buffer_in (buffer_bytes r) ≡ r }
-    ensures subscription { (r : Subscription) → IsLaid subscription_size 0 (subscription_fields r) → subscription_in (subscription_bytes r) ≡ r }
-    ensures same { (model : Model) (b : QueuedBuffer) → qbuf_answer (qbuf_request model b) ≡ qbuf_request model b }
-    ensures frame { (frame timestamp : ℕ) → frame < 2 ^ 32 → frame_of (frame_event frame timestamp) ≡ frame }
+    ensures reqbufs { (r : RequestBuffers) → IsLaid request_size 0 (request_fields r) →
+        reqbufs_in (request_bytes r) ≡ r }
+    ensures buffer { (r : BufferRec) → IsLaid buffer_size 0 (buffer_fields r) →
+        buffer_in (buffer_bytes r) ≡ r }
+    ensures subscription { (r : Subscription) → IsLaid subscription_size 0 (subscription_fields r) →
+        subscription_in (subscription_bytes r) ≡ r }
+    ensures same { (model : Model) (b : QueuedBuffer) →
+        qbuf_answer (qbuf_request model b) ≡ qbuf_request model b }
+    ensures frame { (frame timestamp : ℕ) → frame < 2 ^ 32 →
+        frame_of (frame_event frame timestamp) ≡ frame }
 {}
 
 /// Two buffers that are mapped from one offset are one.
 pub fn offsets_are_apart()
-    ensures { (t u i j : ℕ) → i < 32 → j < 32 → buffer_offset t i ≡ buffer_offset u j → (offsets_from t ≡ offsets_from u) × (i ≡ j) }
+    ensures { (t u i j : ℕ) → i < 32 → j < 32 → buffer_offset t i ≡ buffer_offset u j →
+        (offsets_from t ≡ offsets_from u) × (i ≡ j) }
 {}

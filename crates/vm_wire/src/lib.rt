@@ -1,4 +1,5 @@
-//! What goes over the link, as bytes: commands, their replies, and the messages that the device sends by itself.
+//! What goes over the link, as bytes: commands, their replies, and the messages that the device
+//! sends by itself.
 #![tactic(auto)]
 
 mod buffers;

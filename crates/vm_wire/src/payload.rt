@@ -5,8 +5,9 @@ use std::marker::Model;
 /// How many bytes a payload has at most.
 pub const PAYLOAD_LIMIT: usize = 208;
 
-/// The bytes that an IOCTL carries, the same number in its command and in its reply: the first `len` of `bytes`, at
-/// most 208. Zeros stand behind them. Contracts see a payload as the list of its bytes.
+/// The bytes that an IOCTL carries, the same number in its command and in its reply: the first
+/// `len` of `bytes`, at most 208. Zeros stand behind them. Contracts see a payload as the list of
+/// its bytes.
 ///
 /// Source: own, after the payloads of the VIRTIO 1.4 draft's media device.
 #[derive(Clone, Copy, Debug, PartialEq, Eq)]
@@ -23,13 +24,19 @@ impl Model for Payload {
 
     ghost view = { λ p. take p.len p.bytes };
 
-    ghost invariant = { λ p. (p.len ≤ 208) × (length p.bytes ≡ 208) × (p.bytes ≡ take p.len p.bytes ++ replicate (208 - p.len) 0) };
+    ghost invariant = { λ p. (p.len ≤ 208) × (length p.bytes ≡ 208) ×
+        (p.bytes ≡ take p.len p.bytes ++ replicate (208 - p.len) 0) };
 
-    ghost inverse = { λ xs. record { len = length xs; bytes = xs ++ replicate (208 - length xs) 0 } };
+    ghost inverse = { λ xs. record {
+      len = length xs;
+      bytes = xs ++
+          replicate (208 - length xs) 0;
+    } };
 
     ghost inverse_ok = { λ p h i. record {
       len = length-take-le p.len p.bytes (omega (arith, h.0, h.1)) i;
-      bytes = (ap (λ k. take p.len p.bytes ++ replicate (208 - k) 0) (length-take-le p.len p.bytes (omega (arith, h.0, h.1))) ∙ sym h.2) i;
+      bytes = (ap (λ k. take p.len p.bytes ++ replicate (208 - k) 0)
+          (length-take-le p.len p.bytes (omega (arith, h.0, h.1))) ∙ sym h.2) i;
     } };
 }
 

@@ -42,7 +42,8 @@ pub fn fmt_desc_request(t: u32, i: u32) -> FmtDesc
     }
 }
 
-/// What ENUM_FMT answers: the code of the format in place `i`, and its four letters as the description.
+/// What ENUM_FMT answers: the code of the format in place `i`, and its four letters as the
+/// description.
 ///
 /// Source: Linux V4L2, `struct v4l2_fmtdesc`; the description is own.
 #[tactic(auto, unfolding(crate::specs::Records::fmt_desc_answer))]
@@ -96,7 +97,8 @@ pub fn format_type_request(t: u32) -> FormatRec
     }
 }
 
-/// What G_FMT, TRY_FMT and S_FMT answer: a format of the queue of type `t`, with the bytes of a row and of a picture.
+/// What G_FMT, TRY_FMT and S_FMT answer: a format of the queue of type `t`, with the bytes of a row
+/// and of a picture.
 ///
 /// Source: Linux V4L2, `struct v4l2_format`.
 #[tactic(auto, unfolding(crate::specs::Records::format_answer))]

@@ -7,8 +7,8 @@ use crate::{Command, Payload};
 use v4l_layout::Short;
 use vm_num::{le32, le64, put32, put64};
 
-/// What the device answers to a command: a status, a pad, and with status 0 the answer's fields. Numbers and pads
-/// have four bytes, an address and its length eight, little-endian.
+/// What the device answers to a command: a status, a pad, and with status 0 the answer's fields.
+/// Numbers and pads have four bytes, an address and its length eight, little-endian.
 ///
 /// Source: own, after the sessions of the VIRTIO 1.4 draft's media device.
 #[derive(Clone, Copy, Debug, PartialEq, Eq)]

@@ -1,4 +1,5 @@
-// Commands, replies and messages against their bytes, worked by hand from the wire's tables, and what bytes are refused for.
+// Commands, replies and messages against their bytes, worked by hand from the wire's tables, and
+// what bytes are refused for.
 
 mod buffers;
 mod commands;

@@ -43,7 +43,8 @@ fn with_picture(job: Job) -> Job
 /// Makes the picture of a job in the memory for it.
 fn make_picture(spec: &JobSpec, src: &Option<Held>, dst: &mut Held)
     requires { IsJob (record { spec = spec.now; src = src.now; dst = dst.old }) }
-    ensures bytes { mem_bytes dst.new.mem ≡ picture_of spec.now src.now ++ drop (picture_size spec.now.dst) (mem_bytes dst.old.mem) }
+    ensures bytes { mem_bytes dst.new.mem ≡ picture_of spec.now src.now ++
+        drop (picture_size spec.now.dst) (mem_bytes dst.old.mem) }
     ensures rest { mem_rest dst.new.mem ≡ mem_rest dst.old.mem }
     ensures queue { dst.new.queue ≡ dst.old.queue }
     ensures index { dst.new.index ≡ dst.old.index }

@@ -36,8 +36,8 @@ world_of script guest host q = record {
 abbrev pub CarriesCommand : Parcel → Type 0
 CarriesCommand parcel = (c : Command) × IsCommand c × Carries parcel.who c parcel
 
--- A parcel that came back is the chain of the process that posted it, with the table with which a command was posted; and
--- no more was written than a reply has room for.
+-- A parcel that came back is the chain of the process that posted it, with the table with which a
+-- command was posted; and no more was written than a reply has room for.
 pub record HasCome (parcel : Parcel) (used : ℕ) : Type 0 where
   pub chain : IsChain parcel.who parcel
   pub command : Command

@@ -1,5 +1,5 @@
--- What holds of the world between steps. It is said of slices, one for each handle, and of a few things that are about
--- several handles.
+-- What holds of the world between steps. It is said of slices, one for each handle, and of a few
+-- things that are about several handles.
 use Rattle.std.specs.Prelude.{ℕ, ◌≡◌, ◌+◌, ◌<◌, ◌≤◌, ◌^◌, ◌==◌, Bool, true, false, List, [], ◌∷◌, Option, Some, None, Ok, length, map, filter, sum_by, slice_index_or, is_some, All, if◌then◌else◌}
 use Rattle.v4l_const.specs.declared.model.Model.TheVariants.{Capture}
 use Rattle.vm_local.specs.State.{QueueState, LocalState, opening, opening_queue}
@@ -32,7 +32,8 @@ pub data Stage : Type 0 where
   -- neither, or both: this never comes
   Lost : Stage
 
--- What the device has to agree with of a handle: its session's id, and its state, once what the device did is collected.
+-- What the device has to agree with of a handle: its session's id, and its state, once what the
+-- device did is collected.
 pub record Seat : Type 0 where
   pub session : Option ℕ
   pub local : LocalState
@@ -48,7 +49,8 @@ pub record IsOut (h : HandleState) (sent : Sent) (c : Command) : Type 0 where
   pub out : h.sent ≡ Some sent
   pub crosses : asks h sent.call ≡ Some c
 
--- The device wrote the bytes of a response to the call that is out, which stands for a reply that the call may have.
+-- The device wrote the bytes of a response to the call that is out, which stands for a reply that
+-- the call may have.
 pub record IsTold (h : HandleState) (bytes : List ℕ) (seat : Seat) : Type 0 where
   pub sent : Sent
   pub command : Command
@@ -85,8 +87,8 @@ opened_with q = record opening_queue { format = q.format }
 abbrev pub fresh_with : SessionQueue → SessionQueue
 fresh_with q = record opening_session_queue { format = q.format }
 
--- The session of this id stands for a handle in this state: it has its model, its input and its formats, neither
--- has buffers, and the session made no frame.
+-- The session of this id stands for a handle in this state: it has its model, its input and its
+-- formats, neither has buffers, and the session made no frame.
 pub record Stands (id : ℕ) (s : LocalState) (session : Session) : Type 0 where
   pub numbered : session.id ≡ id
   pub model : s.model ≡ session.model
@@ -123,12 +125,14 @@ IsSeated seat sessions = SeatedBy seat.session seat.local sessions
 abbrev pub seat_at : List (List Seat) → ℕ → ℕ → Seat
 seat_at seats n h = slice_index_or (slice_index_or seats n []) h no_seat
 
--- The ids of the seats are the numbers of the sessions that were opened, each once, and each session stands for the
--- handle that has its id.
+-- The ids of the seats are the numbers of the sessions that were opened, each once, and each
+-- session stands for the handle that has its id.
 pub record Agrees (sessions : List (Option Session)) (seats : List (List Seat)) : Type 0 where
   pub below : (n h id : ℕ) → (seat_at seats n h).session ≡ Some id → id < length sessions
-  pub there : (id : ℕ) → id < length sessions → (n : ℕ) × ((h : ℕ) × ((seat_at seats n h).session ≡ Some id))
-  pub once : (n h m k id : ℕ) → (seat_at seats n h).session ≡ Some id → (seat_at seats m k).session ≡ Some id → (n ≡ m) × (h ≡ k)
+  pub there : (id : ℕ) → id < length sessions → (n : ℕ) ×
+      ((h : ℕ) × ((seat_at seats n h).session ≡ Some id))
+  pub once : (n h m k id : ℕ) → (seat_at seats n h).session ≡ Some id →
+      (seat_at seats m k).session ≡ Some id → (n ≡ m) × (h ≡ k)
   pub seated : (n h : ℕ) → IsSeated (seat_at seats n h) sessions
 
 -- ---- the world
@@ -164,7 +168,8 @@ abbrev pub session_count : Seat → ℕ
 session_count s = if is_some s.session then 1 else 0
 
 -- What a process's handles have to do with their seats, and with what the link has of the process.
-pub record IsSoundProcess (p : ProcessState) (row : List Seat) (rs : List Request) (qs : List Reply) : Type 0 where
+pub record IsSoundProcess (p : ProcessState) (row : List Seat) (rs : List Request)
+    (qs : List Reply) : Type 0 where
   pub quiet : IsOffTheLink (crossing p) rs qs
   pub named : length row ≡ length p.handles
   -- each handle's slice
@@ -174,7 +179,8 @@ pub record IsSoundProcess (p : ProcessState) (row : List Seat) (rs : List Reques
 -- No handle of the process has a call out, and each has its seat.
 pub record IsResting (p : ProcessState) (row : List Seat) : Type 0 where
   pub named : length row ≡ length p.handles
-  pub ahead : (h : ℕ) → h < length p.handles → Ahead (handle_at p h) Resting (slice_index_or row h no_seat)
+  pub ahead : (h : ℕ) → h < length p.handles →
+      Ahead (handle_at p h) Resting (slice_index_or row h no_seat)
 
 -- The world is a sound one of this script.
 pub record IsSoundOf (script : ScriptLines) (w : WorldState) : Type 0 where
@@ -183,7 +189,8 @@ pub record IsSoundOf (script : ScriptLines) (w : WorldState) : Type 0 where
   pub seats : List (List Seat)
   pub seated : length seats ≡ length w.guest.processes
   pub processes : (n : ℕ) → n < length w.guest.processes
-      → IsSoundProcess (process_at w.guest n) (slice_index_or seats n []) (requests_of w n) (replies_of w n)
+      → IsSoundProcess (process_at w.guest n) (slice_index_or seats n []) (requests_of w n)
+      (replies_of w n)
   -- whoever has something in the link is a process, and each has one line there at most
   pub asking : All (λ r. r.who < length w.guest.processes) w.requests
   pub told : All (λ r. r.who < length w.guest.processes) w.replies

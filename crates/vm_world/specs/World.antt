@@ -17,8 +17,8 @@ use Rattle.vm_rest_guest.specs.Guest.{GuestState, process_at, IsDone as IsGuestD
 use Rattle.vm_world.specs.declared.step.Step.{Step}
 use Rattle.vm_world.specs.declared.step.Step.TheVariants.{Issue, Execute, Collect}
 
--- The script that is run, the two ends, the requests that wait for the device, and the replies that the driver hasn't
--- collected.
+-- The script that is run, the two ends, the requests that wait for the device, and the replies that
+-- the driver hasn't collected.
 pub record WorldState : Type 0 where
   pub script : ScriptLines
   pub guest : GuestState
@@ -54,7 +54,8 @@ IsDone w = IsGuestDone w.guest
 
 abbrev pub issues_from : ℕ → List ProcessState → List Step
 issues_from n [] = []
-issues_from n (p ∷ ps) = if can_issue p then Issue n ∷ issues_from (n + 1) ps else issues_from (n + 1) ps
+issues_from n (p ∷ ps) =
+    if can_issue p then Issue n ∷ issues_from (n + 1) ps else issues_from (n + 1) ps
 
 abbrev pub is_some_of : {A : Type 0} → List A → Bool
 is_some_of [] = false
@@ -65,8 +66,8 @@ abbrev pub listed : Bool → Step → List Step
 listed true s = s ∷ []
 listed false s = []
 
--- The steps that may come next, in order: of each process that may begin a line, in the order of the processes; the
--- device's, where a request waits; the driver's, where a reply came.
+-- The steps that may come next, in order: of each process that may begin a line, in the order of
+-- the processes; the device's, where a request waits; the driver's, where a reply came.
 abbrev pub enabled : WorldState → List Step
 enabled w =
     issues_from 0 w.guest.processes
@@ -92,7 +93,8 @@ abbrev pub after_posting : WorldState → Posting → WorldState
 after_posting w p = record w { guest = p.guest; requests = w.requests ++ p.posts }
 
 abbrev pub after_finishing : WorldState → List Request → Finishing → WorldState
-after_finishing w rest f = record w { host = f.host; requests = rest; replies = w.replies ++ f.reply ∷ [] }
+after_finishing w rest f =
+    record w { host = f.host; requests = rest; replies = w.replies ++ f.reply ∷ [] }
 
 -- the first request is done
 abbrev pub Executes : WorldState → List Request → WorldState → Type 0
@@ -102,11 +104,13 @@ Executes w (r ∷ rs) w' = (f : Finishing) × Executed w.host r f × (w' ≡ aft
 -- the first reply is collected
 abbrev pub Collects : WorldState → List Reply → WorldState → Type 0
 Collects w [] w' = ⊥
-Collects w (r ∷ rs) w' = (g : GuestState) × Collected w.guest r g × (w' ≡ record w { guest = g; replies = rs })
+Collects w (r ∷ rs) w' =
+    (g : GuestState) × Collected w.guest r g × (w' ≡ record w { guest = g; replies = rs })
 
 -- The step leads from the one world to the other.
 abbrev pub Steps : WorldState → Step → WorldState → Type 0
-Steps w (Issue p) w' = (posting : Posting) × (issued w.guest p ≡ Some posting) × (w' ≡ after_posting w posting)
+Steps w (Issue p) w' =
+    (posting : Posting) × (issued w.guest p ≡ Some posting) × (w' ≡ after_posting w posting)
 Steps w Execute w' = Executes w w.requests w'
 Steps w Collect w' = Collects w w.replies w'
 
@@ -122,7 +126,8 @@ Leads w (s ∷ ss) w' = (next : WorldState) × Steps w s next × Leads next ss w
 
 -- ---- the steps that are left
 
--- a posted command counts by what may still come of it: a buffer that is queued brings a frame, and its event
+-- a posted command counts by what may still come of it: a buffer that is queued brings a frame, and
+-- its event
 abbrev pub weight_of : Command → ℕ
 weight_of (Ioctl session QBuf payload) = 9
 weight_of c = 3
@@ -136,8 +141,9 @@ request_weight (Judged (Err fault)) = 3
 abbrev pub unbegun : ProcessState → ℕ
 unbegun p = length p.statements - begun p
 
--- A bound on the steps that are left: 12 for each statement that wasn't begun, 9 or 3 for each posted command, and 1 for
--- each reply that wasn't collected.
+-- A bound on the steps that are left: 12 for each statement that wasn't begun, 9 or 3 for each
+-- posted command, and 1 for each reply that wasn't collected.
 abbrev pub left_of : WorldState → ℕ
 left_of w =
-    12 * sum_by unbegun w.guest.processes + sum_by (λ r. request_weight r.asks) w.requests + length w.replies
+    12 * sum_by unbegun w.guest.processes + sum_by
+    (λ r. request_weight r.asks) w.requests + length w.replies

@@ -1,7 +1,7 @@
 //! The driver, the device and the link between them, step by step.
 //!
-//! Begin with `World`. Its main definitions are the steps, in `specs/World.antt`, and what holds between them, in
-//! `specs/Sound.antt`.
+//! Begin with `World`. Its main definitions are the steps, in `specs/World.antt`, and what holds
+//! between them, in `specs/Sound.antt`.
 #![tactic(auto)]
 
 mod laws;

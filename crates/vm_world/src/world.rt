@@ -38,7 +38,10 @@ impl<L: Link> Model for World<L> {
 
     ghost view = { λ w. world_of w.script w.guest w.host (queue_at Commands (L.queues w.link)) };
 
-    ghost invariant = { λ w. IsSound (world_of w.script w.guest w.host (queue_at Commands (L.queues w.link))) × IsCarried (queue_at Commands (L.queues w.link)) × IsEmpty (queue_at Events (L.queues w.link)) };
+    ghost invariant = { λ w. IsSound
+        (world_of w.script w.guest w.host (queue_at Commands (L.queues w.link))) ×
+        IsCarried (queue_at Commands (L.queues w.link)) ×
+        IsEmpty (queue_at Events (L.queues w.link)) };
 }
 
 // How many handles a script has.
@@ -83,9 +86,11 @@ fn nth_issue(guest: &Guest, k: usize) -> Option<Step>
     None
 }
 
-// The k-th of the steps of the device and of the driver's collecting, where there is something that they take.
+// The k-th of the steps of the device and of the driver's collecting, where there is something that
+// they take.
 fn nth_other(can_execute: bool, can_collect: bool, k: usize) -> Option<Step>
-    ensures { result ≡ slice_get (listed can_execute Step.Execute ++ listed can_collect Step.Collect) k }
+    ensures { result ≡ slice_get (listed can_execute Step.Execute ++
+        listed can_collect Step.Collect) k }
 {
     match (can_execute, can_collect, k) {
         (true, _, 0) => Some(Step::Execute),
@@ -136,7 +141,8 @@ impl<L: Link> World<L> {
             + usize::from(self.link.uncollected(QueueId::Command) > 0)
     }
 
-    /// The step at a place among those that may come next, in order. `None` exactly from their number on.
+    /// The step at a place among those that may come next, in order. `None` exactly from their
+    /// number on.
     pub fn enabled_at(&self, k: usize) -> Option<Step>
         ensures step { result ≡ slice_get (enabled self.now) k }
         ensures may { IfSome result (λ s. is_enabled self.now s ≡ true) }
@@ -191,7 +197,8 @@ impl<L: Link> World<L> {
 
     /// The link. Nothing is on its queue of events so far.
     pub fn link(&self) -> &L
-        ensures commands { self.now ≡ world_of self.now.script self.now.guest self.now.host (queue_at Commands (L.queues result.now)) }
+        ensures commands { self.now ≡ world_of self.now.script self.now.guest self.now.host
+            (queue_at Commands (L.queues result.now)) }
         ensures events { IsEmpty (queue_at Events (L.queues result.now)) }
     {
         &self.link

@@ -30,7 +30,8 @@ words_of script = record { calls = flat_map echoes_by_handle script.processes; r
 
 -- a handle's log with its process and its name
 abbrev pub handle_log : ℕ → List ℕ → HandleState → HandleLog
-handle_log process name h = record { process = process; name = name; session = h.session; entries = h.entries }
+handle_log process name h =
+    record { process = process; name = name; session = h.session; entries = h.entries }
 
 -- each handle's head and its log, with the words of its calls
 abbrev pub listed_text : List HandleLog → List (List (List ℕ)) → List ℕ
@@ -40,7 +41,8 @@ listed_text (h ∷ hs) (echoes ∷ words) = handle_text h echoes ++ listed_text 
 
 -- a process's handles, in the script's words
 abbrev pub own_text : ℕ → ProcessLines → List HandleState → List ℕ
-own_text process p handles = listed_text (handle_logs process p.handles handles) (echoes_by_handle p)
+own_text process p handles =
+    listed_text (handle_logs process p.handles handles) (echoes_by_handle p)
 
 -- the same of each process from this number on
 abbrev pub own_texts : ℕ → List ProcessLines → List (List HandleState) → List ℕ

@@ -26,7 +26,8 @@ pub record Part : Type 0 where
 abbrev pub parts_from : ℕ → ℕ → List (List ℕ) → List Line → List Part
 parts_from process h [] lines = []
 parts_from process h (name ∷ names) lines =
-    record { process = process; name = name; calls = lines_of h lines } ∷ parts_from process (h + 1) names lines
+    record { process = process; name = name; calls = lines_of h lines } ∷
+    parts_from process (h + 1) names lines
 
 -- the handles of the processes from this number on
 abbrev pub parts_of : ℕ → List ProcessLines → List Part
@@ -39,8 +40,8 @@ part_answered log = record { process = log.process; name = log.name; calls = cal
 
 -- ---- a run
 
--- The log is a legal run of one local handle, on that handle's own lines alone; an id is printed exactly
--- where its open was answered ok.
+-- The log is a legal run of one local handle, on that handle's own lines alone; an id is printed
+-- exactly where its open was answered ok.
 pub record IsLocalRun (model : Model) (log : HandleLog) : Type 0 where
   pub legal : IsLegal model log.entries
   pub session : is_some log.session ≡ has_opened log.entries
@@ -59,9 +60,11 @@ pub record AreLogsOf (script : ScriptLines) (logs : Logs) : Type 0 where
 abbrev pub logs_of_world : ScriptLines → WorldState → Logs
 logs_of_world script w = logs_of_guest script w.guest
 
--- The seed's schedule leads from the one world, which is the script's before its first line, to the other; the logs there
--- are legal runs of the script's lines, and the text is theirs, in the script's own words.
-pub record IsRunBetween (seed : ℕ) (script : ScriptLines) (w w' : WorldState) (text : List ℕ) : Type 0 where
+-- The seed's schedule leads from the one world, which is the script's before its first line, to the
+-- other; the logs there are legal runs of the script's lines, and the text is theirs, in the
+-- script's own words.
+pub record IsRunBetween (seed : ℕ) (script : ScriptLines) (w w' : WorldState)
+    (text : List ℕ) : Type 0 where
   pub begins : IsOpening script w
   pub scheduled : IsScheduled w seed w'
   pub logs : AreLogsOf script (logs_of_world script w')

@@ -47,7 +47,8 @@ abbrev pub TellsFault : List ℕ → List ℕ → Type 0
 TellsFault bytes text =
     ((script_limit < length bytes) × (text ≡ too_long_line))
     ⊎ ((length bytes ≤ script_limit)
-    × ((f : ScriptFault) × (script_of bytes ≡ Err f) × (text ≡ fault_line f.line (kind_text f.kind))))
+    × ((f : ScriptFault) × (script_of bytes ≡ Err f) ×
+    (text ≡ fault_line f.line (kind_text f.kind))))
 
 -- The text is that of a run of the script under the seed's schedule.
 abbrev pub IsRunUnder : ℕ → ScriptLines → List ℕ → Type 0
@@ -56,7 +57,8 @@ IsRunUnder seed s text = IsRun seed s text
 -- The bytes are a script, and the text is that of its run under the seed's schedule.
 abbrev pub TellsRun : ℕ → List ℕ → List ℕ → Type 0
 TellsRun seed bytes text =
-    (length bytes ≤ script_limit) × ((s : ScriptLines) × (script_of bytes ≡ Ok s) × IsRunUnder seed s text)
+    (length bytes ≤ script_limit) ×
+    ((s : ScriptLines) × (script_of bytes ≡ Ok s) × IsRunUnder seed s text)
 
 -- The text answers the source's bytes, where it tells them, to the command line with this seed.
 abbrev pub Answers : ℕ → Option (List ℕ) → Ending → List ℕ → Type 0
@@ -64,11 +66,12 @@ Answers seed left Ran text = IfSome left (λ bytes. TellsRun seed bytes text)
 Answers seed left BadScript text = IfSome left (λ bytes. TellsFault bytes text)
 Answers seed left ending text = ⊥
 
--- The text answers these words and the source's bytes, and this ending goes with it. Three endings have no
--- text.
+-- The text answers these words and the source's bytes, and this ending goes with it. Three endings
+-- have no text.
 abbrev pub Tells : List (List ℕ) → Option (List ℕ) → Ending → List ℕ → Type 0
 Tells words left BadWords text = (seed_in words ≡ None) × (text ≡ usage_line)
-Tells words left ending text = (seed : ℕ) × (seed_in words ≡ Some seed) × Answers seed left ending text
+Tells words left ending text =
+    (seed : ℕ) × (seed_in words ≡ Some seed) × Answers seed left ending text
 
 -- ---- the outside
 
@@ -98,16 +101,20 @@ outside left read_faults held write_faults = record {
 
 -- The text went out whole, and no write failed.
 abbrev pub WroteAll : SinkView → SinkView → List ℕ → Type 0
-WroteAll before after text = WasAppended before.held after.held text × (after.faults ≡ before.faults)
+WroteAll before after text =
+    WasAppended before.held after.held text × (after.faults ≡ before.faults)
 
 -- A write failed, and a front of the text had gone out before.
 abbrev pub WrotePart : SinkView → SinkView → List ℕ → Type 0
-WrotePart before after text = Rose before.faults after.faults × PartAppended before.held after.held text
+WrotePart before after text =
+    Rose before.faults after.faults × PartAppended before.held after.held text
 
--- The text was written whole, and then the ending is the one that was to be told; or the sink failed.
+-- The text was written whole, and then the ending is the one that was to be told; or the sink
+-- failed.
 abbrev pub IsWritten : SinkView → SinkView → List ℕ → Ending → Ending → Type 0
 IsWritten before after text told ending =
-    ((ending ≡ told) × WroteAll before after text) ⊎ ((ending ≡ SinkFailed) × WrotePart before after text)
+    ((ending ≡ told) × WroteAll before after text) ⊎
+    ((ending ≡ SinkFailed) × WrotePart before after text)
 
 -- ---- the endings
 
@@ -128,24 +135,29 @@ ReadsWell before after = after.source.faults ≡ before.source.faults
 abbrev pub IsTold : List (List ℕ) → Outside → Outside → Ending → Type 0
 IsTold words before after ending =
     ReadsWell before after
-    × ((text : List ℕ) × Tells words before.source.left ending text × WroteAll before.sink after.sink text)
+    × ((text : List ℕ) × Tells words before.source.left ending text ×
+    WroteAll before.sink after.sink text)
 
 -- How the program ends: what each ending says of the words, and of the outside before and after.
 abbrev pub Ends : List (List ℕ) → Outside → Outside → Ending → Type 0
 Ends words before after Ran = IsTold words before after Ran × NothingLeft after.source.left
-Ends words before after BadWords = IsTold words before after BadWords × (after.source.left ≡ before.source.left)
+Ends words before after BadWords =
+    IsTold words before after BadWords × (after.source.left ≡ before.source.left)
 Ends words before after BadScript = IsTold words before after BadScript
 Ends words before after SourceFailed =
-    IsSome (seed_in words) × Rose before.source.faults after.source.faults × (after.sink ≡ before.sink)
+    IsSome (seed_in words) × Rose before.source.faults after.source.faults ×
+    (after.sink ≡ before.sink)
 Ends words before after SinkFailed =
     ReadsWell before after
     × ((told : Ending) × (text : List ℕ) × Tells words before.source.left told text
     × WrotePart before.sink after.sink text)
-Ends words before after NoMemory = IsSome (seed_in words) × ReadsWell before after × (after.sink ≡ before.sink)
+Ends words before after NoMemory =
+    IsSome (seed_in words) × ReadsWell before after × (after.sink ≡ before.sink)
 
 -- The program ends with this status.
 abbrev pub EndsWith : List (List ℕ) → Outside → Outside → ℕ → Type 0
-EndsWith words before after status = (ending : Ending) × (status ≡ status_of ending) × Ends words before after ending
+EndsWith words before after status =
+    (ending : Ending) × (status ≡ status_of ending) × Ends words before after ending
 
 -- a text of this kind was written whole
 abbrev pub Wrote : Option (List ℕ) → Option (List ℕ) → (List ℕ → Type 0) → Type 0

@@ -24,7 +24,8 @@ const LONGEST: usize = WIRE_ROOM;
 
 // Adds a command's bytes to the message.
 fn hash_command(hasher: &mut Sha256, command: Command)
-    ensures { (m : List ℕ) → Holds256 hasher.old m → Holds256 hasher.new (m ++ command_bytes command) }
+    ensures { (m : List ℕ) → Holds256 hasher.old m →
+        Holds256 hasher.new (m ++ command_bytes command) }
 {
     let mut bytes = [0; LONGEST];
     let end = encode_command(&command, &mut bytes);
@@ -33,7 +34,8 @@ fn hash_command(hasher: &mut Sha256, command: Command)
 
 // Adds a reply's bytes to the message.
 fn hash_response(hasher: &mut Sha256, response: Response)
-    ensures { (m : List ℕ) → Holds256 hasher.old m → Holds256 hasher.new (m ++ response_bytes response) }
+    ensures { (m : List ℕ) → Holds256 hasher.old m →
+        Holds256 hasher.new (m ++ response_bytes response) }
 {
     let mut bytes = [0; LONGEST];
     let end = encode_response(&response, &mut bytes);
@@ -43,7 +45,8 @@ fn hash_response(hasher: &mut Sha256, response: Response)
 // Adds what crossed for an entry of the log of a handle of which this is the record before it.
 fn hash_entry(hasher: &mut Sha256, session: u32, kept: &Record, entry: &Entry)
     requires { TellsOffered entry.now }
-    ensures { (m : List ℕ) (s : LocalState) → kept.now ≡ recorded s → Holds256 hasher.old m → Holds256 hasher.new (m ++ wire_of session s entry.now) }
+    ensures { (m : List ℕ) (s : LocalState) → kept.now ≡ recorded s → Holds256 hasher.old m →
+        Holds256 hasher.new (m ++ wire_of session s entry.now) }
 {
     if let Entry::Called { call, reply, .. } = entry
         && let Some(command) = command_of(session, kept, call)
@@ -56,7 +59,8 @@ fn hash_entry(hasher: &mut Sha256, session: u32, kept: &Record, entry: &Entry)
 // Adds what crossed for the log of a handle of this model.
 fn hash_log(hasher: &mut Sha256, model: Model, session: u32, log: &[Entry])
     requires { IsLegal model log.now }
-    ensures { (m : List ℕ) → Holds256 hasher.old m → Holds256 hasher.new (m ++ wires_from session (opening model) log.now) }
+    ensures { (m : List ℕ) → Holds256 hasher.old m →
+        Holds256 hasher.new (m ++ wires_from session (opening model) log.now) }
 {
     let mut kept = Record::new(model);
     for entry in log {
@@ -68,7 +72,8 @@ fn hash_log(hasher: &mut Sha256, model: Model, session: u32, log: &[Entry])
 // Adds what crossed for handles of this model, in order.
 fn hash_handles(hasher: &mut Sha256, model: Model, handles: &[Handle])
     requires { AreLegal model handles.now }
-    ensures { (m : List ℕ) → Holds256 hasher.old m → Holds256 hasher.new (m ++ all_crossed model handles.now) }
+    ensures { (m : List ℕ) → Holds256 hasher.old m →
+        Holds256 hasher.new (m ++ all_crossed model handles.now) }
 {
     for handle in handles {
         let session = handle.session().unwrap_or(0);

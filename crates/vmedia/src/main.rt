@@ -1,7 +1,7 @@
 //! Both ends of a paravirtual media device in one program.
 //!
-//! `vmedia step SEED` reads a script from standard input, runs its process's V4L2 calls over a driver,
-//! a link and a device, and prints each handle's log.
+//! `vmedia step SEED` reads a script from standard input, runs its process's V4L2 calls over a
+//! driver, a link and a device, and prints each handle's log.
 #![tactic(auto)]
 
 use ending::Ending;

@@ -61,7 +61,8 @@ fn push_session(text: &mut Vec<u8>, session: Option<u32>) -> Result<(), Memory>
 
 // Adds the line at the head of a handle's log.
 fn push_head(text: &mut Vec<u8>, process: u32, name: &Name, handle: &Handle) -> Result<(), Memory>
-    ensures { OnOk result (text.new.items ≡ text.old.items ++ head_text (handle_log process name.now handle.now)) }
+    ensures { OnOk result (text.new.items ≡ text.old.items ++
+        head_text (handle_log process name.now handle.now)) }
 {
     push(text, b"handle ")?;
     push_number(text, process)?;
@@ -74,7 +75,8 @@ fn push_head(text: &mut Vec<u8>, process: u32, name: &Name, handle: &Handle) -> 
 
 // Adds a log, each call with the next of the words.
 fn push_entries(text: &mut Vec<u8>, entries: &[Entry], echoes: &[&Echo]) -> Result<(), Memory>
-    ensures { OnOk result (text.new.items ≡ text.old.items ++ entries_text entries.now (map (λ e. e.now) echoes.now)) }
+    ensures { OnOk result (text.new.items ≡ text.old.items ++
+        entries_text entries.now (map (λ e. e.now) echoes.now)) }
 {
     let mut calls = 0;
     for entry in entries {
@@ -103,7 +105,8 @@ fn push_handle(
     handle: &Handle,
     echoes: &Echoes,
 ) -> Result<(), Memory>
-    ensures { OnOk result (text.new.items ≡ text.old.items ++ handle_text (handle_log process name.now handle.now) echoes.now) }
+    ensures { OnOk result (text.new.items ≡ text.old.items ++
+        handle_text (handle_log process name.now handle.now) echoes.now) }
 {
     push_head(text, process, name, handle)?;
     push_entries(text, handle.log(), echoes.lines())
@@ -119,7 +122,8 @@ fn push_handles(
 ) -> Result<(), Memory>
     requires names { length names.now ≡ length handles.now }
     requires words { length words.now ≡ length handles.now }
-    ensures { OnOk result (text.new.items ≡ text.old.items ++ listed_text (handle_logs process names.now handles.now) words.now) }
+    ensures { OnOk result (text.new.items ≡ text.old.items ++
+        listed_text (handle_logs process names.now handles.now) words.now) }
 {
     for (at, handle) in handles.iter().enumerate() {
         push_handle(text, process, &names[at], handle, &words[at])?;
@@ -137,7 +141,8 @@ fn push_process(
     handles: &[Handle],
 ) -> Result<(), Memory>
     requires { length handles.now ≡ length process.now.handles }
-    ensures { OnOk result (text.new.items ≡ text.old.items ++ own_text number process.now handles.now) }
+    ensures { OnOk result (text.new.items ≡ text.old.items ++
+        own_text number process.now handles.now) }
 {
     let words = group_echoes(alloc, &process.handles, &process.lines)?;
     push_handles(text, number, &process.handles, handles, &words)
@@ -151,7 +156,8 @@ fn push_processes(
     guest: &Guest,
 ) -> Result<(), Memory>
     requires { IsDriver script.now guest.now }
-    ensures { OnOk result (text.new.items ≡ text.old.items ++ own_texts 0 script.now.processes (handles_of guest.now)) }
+    ensures { OnOk result (text.new.items ≡ text.old.items ++
+        own_texts 0 script.now.processes (handles_of guest.now)) }
 {
     for (at, process) in script.processes.iter().enumerate() {
         let number = at as u32;
@@ -163,7 +169,8 @@ fn push_processes(
 
 // Adds what ends the text: the regions, of which there are none, and the digest of what crossed.
 fn push_end(text: &mut Vec<u8>, digest: &[u8; 32]) -> Result<(), Memory>
-    ensures { OnOk result (text.new.items ≡ text.old.items ++ codes "region\n" ++ codes "wire " ++ encode_lower digest.now ++ codes "\n") }
+    ensures { OnOk result (text.new.items ≡ text.old.items ++ codes "region\n" ++ codes "wire " ++
+        encode_lower digest.now ++ codes "\n") }
 {
     let mut digits = [0; DIGEST_DIGITS];
     hex::encode_to_slice(digest, &mut digits).unwrap();
@@ -172,14 +179,15 @@ fn push_end(text: &mut Vec<u8>, digest: &[u8; 32]) -> Result<(), Memory>
     push(text, b"\n")
 }
 
-/// The printed text of a script's driver: each process's handles with their logs, and the digest of what crossed for
-/// them.
+/// The printed text of a script's driver: each process's handles with their logs, and the digest of
+/// what crossed for them.
 ///
 /// # Errors
 /// `Memory` where there is none for the text.
 pub fn print(alloc: Global, script: &Script, guest: &Guest) -> Result<Vec<u8>, Memory>
     requires { IsDriver script.now guest.now }
-    ensures { IfOk result (λ text. text.items ≡ text_of (logs_of_guest script.now guest.now) (words_of script.now)) }
+    ensures { IfOk result (λ text. text.items ≡
+        text_of (logs_of_guest script.now guest.now) (words_of script.now)) }
 {
     let mut text = Vec::new(alloc);
     push_processes(alloc, &mut text, script, guest)?;

@@ -102,7 +102,8 @@ fn push_code_alone(text: &mut Vec<u8>, code: FourCc) -> Result<(), Memory>
 
 // Adds a format with the bytes of its first line and of the whole picture.
 fn push_format(text: &mut Vec<u8>, f: &Fmt, line: u32, size: u32) -> Result<(), Memory>
-    ensures { OnOk result (text.new.items ≡ text.old.items ++ reply_text (Reply.Format f.now line size)) }
+    ensures { OnOk result (text.new.items ≡ text.old.items ++
+        reply_text (Reply.Format f.now line size)) }
 {
     push(text, b"ok")?;
     push_code(text, f.code)?;
@@ -146,7 +147,8 @@ fn push_frame(
     ts: u64,
     flags: u32,
 ) -> Result<(), Memory>
-    ensures { OnOk result (text.new.items ≡ text.old.items ++ reply_text (Reply.Frame index used seq ts flags)) }
+    ensures { OnOk result (text.new.items ≡ text.old.items ++
+        reply_text (Reply.Frame index used seq ts flags)) }
 {
     push(text, b"ok")?;
     push_decimal(text, index)?;
@@ -175,7 +177,8 @@ fn push_small(text: &mut Vec<u8>, bytes: &Small) -> Result<(), Memory>
 
 // Adds a digest of bytes.
 fn push_digest(text: &mut Vec<u8>, digest: &[u8; 32]) -> Result<(), Memory>
-    ensures { OnOk result (text.new.items ≡ text.old.items ++ reply_text (Reply.Digest digest.now)) }
+    ensures { OnOk result (text.new.items ≡ text.old.items ++
+        reply_text (Reply.Digest digest.now)) }
 {
     push(text, b"ok")?;
     push_hex(text, digest)
@@ -189,7 +192,8 @@ fn push_event(
     pending: u32,
     seq: u32,
 ) -> Result<(), Memory>
-    ensures { OnOk result (text.new.items ≡ text.old.items ++ reply_text (Reply.Event kind frame pending seq)) }
+    ensures { OnOk result (text.new.items ≡ text.old.items ++
+        reply_text (Reply.Event kind frame pending seq)) }
 {
     push(text, b"ok")?;
     push_decimal(text, kind)?;

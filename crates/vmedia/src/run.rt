@@ -26,7 +26,8 @@ const EVENT_QUEUE: u16 = 16;
 /// # Errors
 /// `Memory` where there is none for the text.
 pub fn run_world<L: Link>(alloc: Global, world: &mut World<L>, seed: u64) -> Result<Vec<u8>, Memory>
-    ensures { (script : ScriptLines) → IsOpening script world.old → IfOk result (λ text. IsRun seed script text.items) }
+    ensures { (script : ScriptLines) → IsOpening script world.old →
+        IfOk result (λ text. IsRun seed script text.items) }
 {
     run_schedule(world, seed);
     print(alloc, world.script(), world.guest())

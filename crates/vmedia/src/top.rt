@@ -122,7 +122,8 @@ fn answer_to_source<S: Source>(alloc: Global, src: &mut S, seed: u64) -> Result<
     Ok(answer)
 }
 
-// Writes a text, and gives its ending, or that of a failing sink. A write that failed isn't tried again.
+// Writes a text, and gives its ending, or that of a failing sink. A write that failed isn't tried
+// again.
 fn write<K: Sink>(sink: &mut K, text: &[u8], told: Ending) -> Ending
     ensures { IsWritten (sink_view (K.held sink.old) (K.faults sink.old))
         (sink_view (K.held sink.new) (K.faults sink.new)) text.now told result }
@@ -162,9 +163,9 @@ fn serve<S: Source, K: Sink>(alloc: Global, words: &[String], src: &mut S, sink:
 /// | 5 | the sink failed | a front of what was to be written |
 /// | 6 | memory was wanting | nothing |
 ///
-/// Nothing that failed is tried again. So the source's count of faults stays with every status but 4, and
-/// the sink's with every one but 5. With 4 or 5 the count rose; one that stands at 2^64 - 1 can rise no
-/// more, and counts as risen.
+/// Nothing that failed is tried again. So the source's count of faults stays with every status but
+/// 4, and the sink's with every one but 5. With 4 or 5 the count rose; one that stands at 2^64 - 1
+/// can rise no more, and counts as risen.
 ///
 /// Source: own.
 pub fn top_plain<S: Source, K: Sink, E: Engine>(
@@ -225,8 +226,8 @@ pub fn top_plain<S: Source, K: Sink, E: Engine>(
     serve(alloc, words, src, sink).status()
 }
 
-/// What is answered to a command line with a word that isn't UTF-8, which `top_plain` can't be given: no such
-/// word is one of a command line that is served.
+/// What is answered to a command line with a word that isn't UTF-8, which `top_plain` can't be
+/// given: no such word is one of a command line that is served.
 ///
 /// Source: own.
 pub fn top_bad_words<K: Sink>(sink: &mut K) -> u8

@@ -68,8 +68,8 @@ struct Told {
     sink: MemSink,
 }
 
-/// What is told to words and a script. The source gives `piece` bytes a call, and so does the sink take
-/// them; each fails at the calls with these numbers.
+/// What is told to words and a script. The source gives `piece` bytes a call, and so does the sink
+/// take them; each fails at the calls with these numbers.
 fn answer_of(
     alloc: Global,
     words: &[&str],
@@ -102,7 +102,8 @@ const EMPTY: &[u8] =
 const OPEN_CLOSE: &[u8] =
     b"handle 0 a 0\n1 open a = ok\n2 close a = ok\nregion\nwire 989fe555f0346a6e44705d83652bdf0d955caa2edeb1a615d82b93d7c7a00851\n";
 
-/// Several handles, with a comment, a blank line, tabs, closes of closed handles and no last newline.
+/// Several handles, with a comment, a blank line, tabs, closes of closed handles and no last
+/// newline.
 const SEVERAL: &[u8] =
     b"# three handles\n\nopen a\n\topen  b \r\nclose a\nclose a\nopen c9\n# more\nclose c9\nclose b\nclose b";
 

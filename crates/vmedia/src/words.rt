@@ -42,8 +42,8 @@ fn told_words<R: Env + AllocGlobal>(rt: &R) -> io::Result<Vec<String>> {
 /// The words after the program's name.
 ///
 /// # Errors
-/// `NotUtf8` where a word of the command line isn't UTF-8, be it the program's name, and `Memory` where
-/// there is none for the words.
+/// `NotUtf8` where a word of the command line isn't UTF-8, be it the program's name, and `Memory`
+/// where there is none for the words.
 ///
 /// Source: own.
 pub fn words_of<R: Env + AllocGlobal>(rt: &R) -> Result<Vec<String>, WordsError> {

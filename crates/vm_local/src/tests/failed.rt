@@ -67,8 +67,8 @@ fn event(frame: u32, seq: u32) -> Reply {
     }
 }
 
-/// A camera fails at its second picture: the buffer has the mark and no byte in use, keeps its bytes, and
-/// no event tells of it.
+/// A camera fails at its second picture: the buffer has the mark and no byte in use, keeps its
+/// bytes, and no event tells of it.
 #[test]
 fn failed_picture(rt: HostRuntime) -> Result<(), Fail> {
     let m1 = name(b"m1");
@@ -131,7 +131,8 @@ fn failed_picture(rt: HostRuntime) -> Result<(), Fail> {
     Ok(())
 }
 
-/// A converter fails: both buffers have the mark and the timestamp of the source, which keeps its bytes in use.
+/// A converter fails: both buffers have the mark and the timestamp of the source, which keeps its
+/// bytes in use.
 #[test]
 fn failed_conversion(rt: HostRuntime) -> Result<(), Fail> {
     let log = [

@@ -26,7 +26,8 @@ const LINES: u32 = 32;
 /// What stands behind a command.
 const BEHIND: u8 = 0xee;
 
-/// A handle, and beside it the plain machine in the state of its log, with the record of that state.
+/// A handle, and beside it the plain machine in the state of its log, with the record of that
+/// state.
 #[derive(Drop)]
 pub struct Pair {
     handle: Handle,
@@ -47,7 +48,10 @@ impl Model for Pair {
 
     ghost view = { λ p. p.handle };
 
-    ghost invariant = { λ p. (p.local ≡ local_of p.handle) × IsLegal p.handle.model p.handle.entries × (p.kept ≡ recorded p.local) × (p.local.events ≡ []) × (p.left + p.handle.begun ≤ p.handle.lines) × (p.handle.sent ≡ None) };
+    ghost invariant = { λ p. (p.local ≡ local_of p.handle) ×
+        IsLegal p.handle.model p.handle.entries × (p.kept ≡ recorded p.local) ×
+        (p.local.events ≡ []) × (p.left + p.handle.begun ≤ p.handle.lines) ×
+        (p.handle.sent ≡ None) };
 }
 
 // Whether two answers are the same.
@@ -66,7 +70,8 @@ fn is_same(a: &Response, b: &Response) -> bool
 // Makes a call on the plain machine. True says that the call may have this reply there.
 fn step(local: &mut Local, line: u32, call: &Call, reply: &Reply) -> Result<bool, Memory>
     requires quiet { local.old.events ≡ [] }
-    ensures goes { IfOk result (λ legal. legal ≡ true → IsCall local.old line call.now reply.now local.new) }
+    ensures goes { IfOk result (λ legal. legal ≡ true →
+        IsCall local.old line call.now reply.now local.new) }
     ensures quiet { IfOk result (λ legal. local.new.events ≡ []) }
     ensures err { OnErr result (local.new ≡ local.old) }
 {
@@ -157,8 +162,8 @@ impl Pair {
         Ok(())
     }
 
-    /// A line that crosses by just the row's command, and is logged with its reply where the device answers so. The
-    /// plain machine allows the reply.
+    /// A line that crosses by just the row's command, and is logged with its reply where the device
+    /// answers so. The plain machine allows the reply.
     pub fn cross(&mut self, rt: &impl Abort, row: &Row) -> Result<(), Fail> {
         let line = self.line();
         let want = joined(self.alloc, row.command)?;

@@ -1,4 +1,5 @@
-// Buffers are made, told, mapped and given back. A command's numbers have four bytes each, as those of a reply.
+// Buffers are made, told, mapped and given back. A command's numbers have four bytes each, as those
+// of a reply.
 
 ghost use Rattle.std.specs.Prelude.{ℕ, ◌+◌, OnOk};
 ghost use Rattle.vm_rest_host.specs.Growth.{HasServed, HasServedFew};
@@ -44,8 +45,8 @@ fn buffers_are_mapped(rt: HostRuntime) -> Result<(), Fail> {
     // The command's numbers, and how many bytes of them are sent; the used length, and the reply.
     let rows = [
         ([1, 0, 0, 0, 0, 0, 0, 0, 0, 0], 8, 16, opened(0)),
-        // Two buffers of 3,072 bytes are mapped, the first one twice. A session that isn't live, an offset behind them,
-        // and one within them aren't.
+        // Two buffers of 3,072 bytes are mapped, the first one twice. A session that isn't live, an
+        // offset behind them, and one within them aren't.
         ([4, 0, 0, 1, 0, 0, 0, 0, 0, 0], 24, 8, status(22)),
         ([3, 0, 0, 8, 2, 1, 1, 0, 0, 0], 36, 28, made(2, 1)),
         ([4, 0, 1, 1, 0, 0, 0, 0, 0, 0], 24, 8, status(9)),
@@ -59,7 +60,8 @@ fn buffers_are_mapped(rt: HostRuntime) -> Result<(), Fail> {
             mapped(4096, 3072),
         ),
         ([4, 0, 0, 1, 0, 7, 0, 0, 0, 0], 24, 24, mapped(0, 3072)),
-        // The buffer that is made in place of the first has a range of its own, since that of the first lives on.
+        // The buffer that is made in place of the first has a range of its own, since that of the
+        // first lives on.
         ([3, 0, 0, 8, 1, 1, 1, 0, 0, 0], 36, 28, made(1, 1)),
         ([4, 0, 0, 1, 0, 0, 0, 0, 0, 0], 24, 24, mapped(8192, 3072)),
         ([4, 0, 0, 1, 0x10_0000, 0, 0, 0, 0, 0], 24, 8, status(22)),
@@ -68,7 +70,8 @@ fn buffers_are_mapped(rt: HostRuntime) -> Result<(), Fail> {
         ([4, 0, 0, 1, 0, 0, 0, 0, 0, 0], 24, 8, status(22)),
         ([3, 0, 0, 8, 0, 1, 1, 0, 0, 0], 36, 28, made(0, 1)),
         ([4, 0, 0, 1, 0, 0, 0, 0, 0, 0], 24, 8, status(22)),
-        // What is mapped stays so when the session is closed, until it is given back as often as it was mapped.
+        // What is mapped stays so when the session is closed, until it is given back as often as it
+        // was mapped.
         ([2, 0, 0, 0, 0, 0, 0, 0, 0, 0], 16, 8, status(0)),
         ([4, 0, 0, 1, 0, 0, 0, 0, 0, 0], 24, 8, status(9)),
         ([5, 0, 4096, 0, 0, 0, 0, 0, 0, 0], 16, 8, status(0)),
@@ -119,7 +122,8 @@ fn known(held: &[Held], place: usize) -> Known {
     }
 }
 
-// Sends a command, and gives the status, how many memories came along, and of the first and the last one what is known.
+// Sends a command, and gives the status, how many memories came along, and of the first and the
+// last one what is known.
 fn memories(
     alloc: Global,
     host: &mut Host,
@@ -147,7 +151,8 @@ fn frames_come_along(rt: HostRuntime) -> Result<(), Fail> {
     let two = (0, 2, (0, first, 3072), (1, first + 1, 3072));
     let most = (0, 32, (0, first + 2, 3072), (31, first + 33, 3072));
     let largest = (0, first + 34, 921_600);
-    // The command's numbers, and how many bytes of them are sent; the status, and which memories come along.
+    // The command's numbers, and how many bytes of them are sent; the status, and which memories
+    // come along.
     let rows = [
         ([1, 0, 0, 0, 0, 0, 0, 0, 0, 0], 8, none),
         ([1, 0, 0, 0, 0, 0, 0, 0, 0, 0], 8, none),
@@ -204,8 +209,8 @@ fn status_alone(number: u32) -> [u32; LOOKED_AT] {
     short([status, pad, a, b, c, d, STAYS, STAYS, STAYS, STAYS])
 }
 
-// The reply to QUERYBUF: the v4l2_buffer of index 1 and type 1 has the flags 0x2000 at 12, the field 1 at 16, the memory
-// kind 1 at 60, the offset 0x100000 at 64, and the length 3,072 at 72.
+// The reply to QUERYBUF: the v4l2_buffer of index 1 and type 1 has the flags 0x2000 at 12, the
+// field 1 at 16, the memory kind 1 at 60, the offset 0x100000 at 64, and the length 3,072 at 72.
 const TOLD: [u32; LOOKED_AT] = [
     0, 0, 1, 1, 0, 0x2000, 1, 0, 0, 0, 0, 0, 0, 0, 0, 0, 0, 1, 0x10_0000, 0, 3072, 0, 0, 0,
 ];
@@ -217,7 +222,8 @@ fn whole_replies_are_written(rt: HostRuntime) -> Result<(), Fail> {
     let made = short([0, 0, 2, 1, 1, 0x13, 0, STAYS, STAYS, STAYS]);
     let mapped = short([0, 0, 0, 0, 3072, 0, STAYS, STAYS, STAYS, STAYS]);
     let refused = status_alone(22);
-    // The command's numbers, and how many bytes of them are sent; the used length, and the numbers of the reply's page.
+    // The command's numbers, and how many bytes of them are sent; the used length, and the numbers
+    // of the reply's page.
     let rows = [
         ([1, 0, 0, 0, 0, 0, 0, 0, 0, 0], 8, 16, opened),
         ([3, 0, 0, 9, 0, 1, 0, 0, 0, 0], 104, 8, refused),

@@ -31,7 +31,8 @@ const TO_FILL: [u8; 88] = [
     0, 0, 0x20, 0, 0, 0, 0, 0, 0, 12, 0, 0, 0, 0, 0, 0, 0, 0, 0, 0, 0, 0, 0, 0,
 ];
 
-// Buffer 1 of the output queue is queued: 3000 bytes, of 7.04 seconds, in the user's memory at 0x100123045.
+// Buffer 1 of the output queue is queued: 3000 bytes, of 7.04 seconds, in the user's memory at
+// 0x100123045.
 const TO_READ: [u8; 88] = [
     1, 0, 0, 0, 2, 0, 0, 0, 0xb8, 0x0b, 0, 0, 0, 0, 0, 0, 0, 0, 0, 0, 0, 0, 0, 0, 7, 0, 0, 0, 0, 0,
     0, 0, 0x40, 0x9c, 0, 0, 0, 0, 0, 0, 0, 0, 0, 0, 0, 0, 0, 0, 0, 0, 0, 0, 0, 0, 0, 0, 0, 0, 0, 0,

@@ -19,7 +19,8 @@ const HAPPENED: [u8; 108] = [
     0, 0x5a, 0x62, 2, 0, 0, 0, 0, 0, 0, 0, 0,
 ];
 
-// The buffer of index 2 in the capture queue: frame 9, made 7.04 seconds after the start, with an error.
+// The buffer of index 2 in the capture queue: frame 9, made 7.04 seconds after the start, with an
+// error.
 fn dequeued() -> EventMsg {
     EventMsg::Dequeued {
         session: 5,
