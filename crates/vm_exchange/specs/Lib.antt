@@ -1,4 +1,5 @@
 pub mod Entries
 pub mod Exchange
+pub mod Messages
 pub mod Range
 pub mod Laws

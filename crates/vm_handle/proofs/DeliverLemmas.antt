@@ -17,7 +17,8 @@ use Rattle.vm_log.specs.LegalLog.{LogState, state_of, with_entry, MayFollow}
 use Rattle.vm_exchange.specs.Range.{HasWords}
 use Rattle.vm_handle.specs.declared.stage.Stage.{Stage}
 use Rattle.vm_handle.specs.Handle.{id_of, opens_session, has_opened, Keeps, KeepsUnwoken}
-use Rattle.vm_handle.specs.Messages.{is_marked, is_first, made_by, steps_of, GivesFirst, state_made, Delivers}
+use Rattle.vm_exchange.specs.Messages.{is_marked, is_first, made_by, steps_of}
+use Rattle.vm_handle.specs.Messages.{GivesFirst, state_made, Delivers}
 use Rattle.vm_handle.specs.Answers.{with_steps, with_given}
 use Rattle.vm_handle.proofs.LogLemmas.{IsReady, entry_leads, legal_more, ready_more, reached, opened_more}
 use Rattle.vm_handle.proofs.StageLemmas.{stage_still, unwoken}

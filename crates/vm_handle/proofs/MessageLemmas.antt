@@ -18,7 +18,8 @@ use Rattle.vm_home.specs.Home.{IsMemory}
 use Rattle.vm_home.specs.Moves.{is_buffer, owes_buffer, moves_at}
 use Rattle.vm_home.specs.ToCome.{IsStep}
 use Rattle.vm_log.specs.Answers.{number_in, number_owed}
-use Rattle.vm_handle.specs.Messages.{is_marked, is_first, frame_step, made_by, steps_of, GivesItem, GivesFirst, state_made}
+use Rattle.vm_exchange.specs.Messages.{is_marked, is_first, frame_step, made_by, steps_of}
+use Rattle.vm_handle.specs.Messages.{GivesItem, GivesFirst, state_made}
 
 -- ---- what is given
 

@@ -33,7 +33,7 @@ use Rattle.vm_handle.specs.declared.stage.Stage.TheVariants.{AtRest, Underway, W
 use Rattle.vm_handle.specs.declared.started.Started.{Started}
 use Rattle.vm_handle.specs.declared.started.Started.TheVariants.{Answered, Send, Wait}
 use Rattle.vm_handle.specs.Handle.{HandleState, way_from}
-use Rattle.vm_handle.specs.Messages.{made_by}
+use Rattle.vm_exchange.specs.Messages.{made_by}
 
 -- ---- answered without the device
 

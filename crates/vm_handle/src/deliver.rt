@@ -5,7 +5,8 @@ ghost use Rattle.vm_wire.specs.declared.event.EventMsg.{EventMsg};
 ghost use Rattle.vm_log.specs.LegalLog.{state_of};
 ghost use Rattle.vm_handle.specs.declared.stage.Stage.TheVariants.{Waiting};
 ghost use Rattle.vm_handle.specs.Handle.{Keeps, KeepsUnwoken};
-ghost use Rattle.vm_handle.specs.Messages.{made_by, steps_of, GivesFirst, Delivers};
+ghost use Rattle.vm_exchange.specs.Messages.{made_by, steps_of};
+ghost use Rattle.vm_handle.specs.Messages.{GivesFirst, Delivers};
 ghost use Rattle.vm_handle.specs.Answers.{with_steps, with_given, awoken};
 
 use crate::answer::answer_here;

@@ -2,7 +2,7 @@
 ghost use Rattle.std.specs.Prelude.{◌≡◌, ◌∷◌, []};
 ghost use Rattle.std.specs.Option.{option_map_or};
 ghost use Rattle.v4l_const.specs.Model.{source_queue};
-ghost use Rattle.vm_handle.specs.Messages.{is_marked, is_first, frame_step, made_by};
+ghost use Rattle.vm_exchange.specs.Messages.{is_marked, is_first, frame_step, made_by};
 
 use v4l_const::{BufFlags, Model};
 use v4l_layout::BufferRec;

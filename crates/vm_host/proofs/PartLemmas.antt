@@ -21,7 +21,8 @@ use Rattle.vm_device.specs.Perform.{Performs, must_wait}
 use Rattle.vm_device.specs.Stream.{Sends}
 use Rattle.vm_host.specs.Chains.{Sent, chain_in, asked_by, behind, refusal_of_fault}
 use Rattle.vm_host.specs.Host.{HostState, waiting_for, with_call, without_call}
-use Rattle.vm_host.specs.Part.{Posting, Returning, Completed, ExecutedAsk, ExecutedCommand, ResumedCall, AnnouncedTo, IsExecuted, IsResumed, IsAnnounced, CarriesIf, ask_by, behind_by, behind_asked, posting_of, call_of, part_of, call_for, returning}
+use Rattle.vm_wire.specs.Message.{Posting, Returning}
+use Rattle.vm_host.specs.Part.{Completed, ExecutedAsk, ExecutedCommand, ResumedCall, AnnouncedTo, IsExecuted, IsResumed, IsAnnounced, CarriesIf, ask_by, behind_by, behind_asked, posting_of, call_of, part_of, call_for, returning}
 use Rattle.vm_host.specs.Steps.{Completes, Serves, ServesRoom, ServesAsked, ServesCommand, Resumes, ResumesCall, Announce}
 use Rattle.vm_host.specs.Waiting.{put_in, taken_out}
 use Rattle.vm_host.specs.declared.waiting.Waiting.{Waiting}

@@ -2,8 +2,6 @@
 -- Source: own, after VIRTIO 1.3, 2.7 "Split Virtqueues", and the VIRTIO 1.4 draft, "Media Device".
 use Rattle.std.specs.Prelude.{ℕ, ◌≡◌, ◌≤◌, ◌+◌, true, List, ◌++◌, length, drop, Option, Some, None, Result}
 use Rattle.std.specs.Option.{option_to_list}
-use Rattle.v4l_const.specs.declared.errno.Errno.{Errno}
-use Rattle.v4l_const.specs.declared.errno.Errno.TheVariants.{Einval, Eopnotsupp, Enotty, Emsgsize}
 use Rattle.v4l_const.specs.Errno.{errno_number}
 use Rattle.vm_chain.specs.Chain.{writable_bytes}
 use Rattle.vm_chain.specs.Walk.{walk_of}
@@ -14,11 +12,11 @@ use Rattle.vm_link.specs.Parcel.{homes_of}
 use Rattle.vm_link.specs.declared.parcel.Parcel.{Parcel}
 use Rattle.vm_mem.specs.declared.page.Page.{Page}
 use Rattle.vm_wire.specs.Event.{event_bytes}
+use Rattle.vm_wire.specs.Message.{errno_of_fault}
 use Rattle.vm_wire.specs.Wire.{judged, command_bytes, response_bytes}
 use Rattle.vm_wire.specs.declared.command.Command.{Command}
 use Rattle.vm_wire.specs.declared.command.Command.TheVariants.{OpenSession, CloseSession, Ioctl, Map, Unmap}
 use Rattle.vm_wire.specs.declared.command.CmdFault.{CmdFault}
-use Rattle.vm_wire.specs.declared.command.CmdFault.TheVariants.{Short, UnknownCmd, UnknownIoctl, Room}
 use Rattle.vm_wire.specs.declared.event.EventMsg.{EventMsg}
 use Rattle.vm_wire.specs.declared.response.Response.{Response}
 use Rattle.vm_wire.specs.declared.response.Response.TheVariants.{Refused}
@@ -55,13 +53,6 @@ named_session (CloseSession session) = Some session
 named_session (Ioctl session code payload) = Some session
 named_session (Map session writable offset) = Some session
 named_session (Unmap addr) = None
-
--- the errno by which a malformed command is refused
-abbrev pub errno_of_fault : CmdFault → Errno
-errno_of_fault Short = Einval
-errno_of_fault UnknownCmd = Eopnotsupp
-errno_of_fault UnknownIoctl = Enotty
-errno_of_fault Room = Emsgsize
 
 abbrev pub refusal_of_fault : CmdFault → Response
 refusal_of_fault f = Refused (errno_number (errno_of_fault f))

@@ -8,7 +8,7 @@ use Rattle.vm_chain.specs.declared.fault.ChainFault.{ChainFault}
 use Rattle.vm_frame.specs.declared.mem.Held.{Held}
 use Rattle.vm_link.specs.declared.parcel.Parcel.{Parcel}
 use Rattle.vm_wire.specs.Event.{event_bytes}
-use Rattle.vm_wire.specs.Message.{Ask, Request, Reply}
+use Rattle.vm_wire.specs.Message.{Ask, Posting, Returning}
 use Rattle.vm_wire.specs.Message.Ask.{Unusable, Judged}
 use Rattle.vm_wire.specs.Wire.{response_bytes}
 use Rattle.vm_wire.specs.declared.command.Command.{Command}
@@ -23,18 +23,6 @@ use Rattle.vm_host.specs.Waiting.{put_in, found, taken_out}
 use Rattle.vm_host.specs.declared.waiting.Waiting.{Waiting}
 
 -- ---- what is said
-
--- What a chain on the queue of commands brings: its request, the bytes behind its command, and its
--- memories.
-pub record Posting : Type 0 where
-  pub request : Request
-  pub behind : List ℕ
-  pub held : List Held
-
--- what goes back: a reply, and memories
-pub record Returning : Type 0 where
-  pub reply : Reply
-  pub held : List Held
 
 -- what a chain with these descriptors, or with a fault, asks
 abbrev pub ask_by : Result (List Desc) ChainFault → Parcel → Ask

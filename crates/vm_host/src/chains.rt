@@ -12,7 +12,8 @@ ghost use Rattle.vm_wire.specs.declared.command.Command.{Command};
 ghost use Rattle.vm_wire.specs.declared.event.EventMsg.{EventMsg};
 ghost use Rattle.vm_device.specs.Perform.{FitsCall, HasPlaceFor, EachMadeFew, must_wait};
 ghost use Rattle.vm_device.specs.Stream.{Sends};
-ghost use Rattle.vm_host.specs.Chains.{HasRoomFor, asked_by, behind, chain_in, named_session, errno_of_fault, sent_reply, sent_event};
+ghost use Rattle.vm_wire.specs.Message.{errno_of_fault};
+ghost use Rattle.vm_host.specs.Chains.{HasRoomFor, asked_by, behind, chain_in, named_session, sent_reply, sent_event};
 ghost use Rattle.vm_host.specs.Keeps.{CanGoOn};
 ghost use Rattle.vm_host.specs.Steps.{Completes, GoesOn, Served};
 

@@ -34,7 +34,8 @@ use Rattle.vm_commute.proofs.ReachedLemmas.{reached_after}
 use Rattle.vm_home.specs.Moves.{is_stopping}
 use Rattle.vm_home.specs.Reached.{IsReached}
 use Rattle.vm_session.specs.declared.unsent.Unsent.{Unsent}
-use Rattle.vm_stands.specs.Flight.{made_by, steps_of, flight_of, stops_queues, yet_to_log, ahead_of, LeadAll}
+use Rattle.vm_exchange.specs.Messages.{made_by, steps_of, flight_of}
+use Rattle.vm_stands.specs.Flight.{stops_queues, yet_to_log, ahead_of, LeadAll}
 use Rattle.vm_stands.specs.Ahead.{StopsNone, MayDeliver}
 use Rattle.vm_stands.proofs.FlightLemmas.{steps_model, made_steps, all_replay}
 

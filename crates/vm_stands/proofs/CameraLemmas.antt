@@ -22,7 +22,8 @@ use Rattle.vm_session.specs.Sound.{taken_by}
 use Rattle.vm_session.specs.Streaming.{frame_time, returned, src_events, dst_event, events_of, stamp_of, note_of}
 use Rattle.vm_stands.specs.Stands.{of_type}
 use Rattle.vm_local.specs.Log.{replay_from}
-use Rattle.vm_stands.specs.Flight.{is_marked, made_by, GivesBuffer, GivesEvent}
+use Rattle.vm_exchange.specs.Messages.{is_marked, made_by}
+use Rattle.vm_stands.specs.Flight.{GivesBuffer, GivesEvent}
 use Rattle.vm_stands.proofs.LeadLemmas.{Given, give_frame}
 use Rattle.vm_stands.proofs.NextLemmas.{sequence_is}
 use Rattle.vm_stands.proofs.TookLemmas.{OneEach, took_one, one_here, IsTaken, taken_is}

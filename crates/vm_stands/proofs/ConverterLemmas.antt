@@ -30,7 +30,8 @@ use Rattle.vm_session.specs.Streaming.{frame_time, returned, src_events, dst_eve
 use Rattle.vm_wire.specs.Buffers.{frame_event}
 use Rattle.vm_wire.specs.declared.event.EventMsg.TheVariants.{Happened}
 use Rattle.vm_stands.specs.Stands.{seconds_of, micros_of, of_type, IsPictureTold, IsHeadIf}
-use Rattle.vm_stands.specs.Flight.{is_marked, made_by, IsHeldAt, GivesBuffer}
+use Rattle.vm_exchange.specs.Messages.{is_marked, made_by}
+use Rattle.vm_stands.specs.Flight.{IsHeldAt, GivesBuffer}
 use Rattle.vm_stands.proofs.FrameLemmas.{frame_queue}
 use Rattle.vm_stands.proofs.LeadLemmas.{Given, give_frame}
 use Rattle.vm_stands.proofs.TookLemmas.{OneEach, took_two, two_first, two_second, IsTaken, taken_is}

@@ -21,7 +21,8 @@ use Rattle.vm_local.proofs.StepLemmas.{finished_by, failed_by, given_by, Gave}
 use Rattle.vm_commute.specs.Commute.{is_step, AreSteps}
 use Rattle.vm_commute.proofs.EventsLemmas.{by_first}
 use Rattle.vm_session.specs.declared.unsent.Unsent.{Unsent}
-use Rattle.vm_stands.specs.Flight.{is_marked, is_first, frame_step, made_by, steps_of, flight_of, Leads, LeadAll}
+use Rattle.vm_exchange.specs.Messages.{is_marked, is_first, frame_step, made_by, steps_of, flight_of}
+use Rattle.vm_stands.specs.Flight.{Leads, LeadAll}
 
 -- ---- the model stays
 

@@ -39,7 +39,8 @@ use Rattle.vm_home.proofs.FactLemmas.{Facts, facts_of}
 use Rattle.vm_home.proofs.OwnLemmas.{number_made}
 use Rattle.vm_exchange.specs.Exchange.{memory_number}
 use Rattle.vm_session.specs.declared.unsent.Unsent.{Unsent}
-use Rattle.vm_stands.specs.Flight.{made_by, note_of, given_record, IsHeldAt, GivesItem, GivesFirst, Leads, LeadAll}
+use Rattle.vm_exchange.specs.Messages.{made_by}
+use Rattle.vm_stands.specs.Flight.{note_of, given_record, IsHeldAt, GivesItem, GivesFirst, Leads, LeadAll}
 use Rattle.vm_stands.proofs.SeenLemmas.{seen_buffer, seen, queue_alike, buffer_alike, idle_alike, idle_seen}
 use Rattle.vm_stands.proofs.GivenLemmas.{given_seen}
 use Rattle.vm_stands.proofs.FlightLemmas.{made_steps}

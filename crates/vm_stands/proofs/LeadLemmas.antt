@@ -18,7 +18,8 @@ use Rattle.vm_commute.proofs.ReachedLemmas.{reached_after}
 use Rattle.vm_home.specs.Reached.{IsReached}
 use Rattle.vm_exchange.specs.Exchange.{memory_number}
 use Rattle.vm_session.specs.declared.unsent.Unsent.{Unsent}
-use Rattle.vm_stands.specs.Flight.{made_by, note_of, given_record, IsHeldAt, GivesItem, GivesFirst, Leads, LeadAll}
+use Rattle.vm_exchange.specs.Messages.{made_by}
+use Rattle.vm_stands.specs.Flight.{note_of, given_record, IsHeldAt, GivesItem, GivesFirst, Leads, LeadAll}
 use Rattle.vm_stands.proofs.SeenLemmas.{seen_buffer, seen_queue, seen, queue_alike, buffer_alike, memory_at_seen}
 use Rattle.vm_stands.proofs.GivenLemmas.{given_seen}
 

@@ -51,7 +51,8 @@ use Rattle.vm_home.specs.Moves.{memory_at, is_stopping}
 use Rattle.vm_home.specs.Reached.{IsReached}
 use Rattle.vm_exchange.specs.Exchange.{memory_number}
 use Rattle.vm_session.specs.declared.unsent.Unsent.{Unsent}
-use Rattle.vm_stands.specs.Flight.{made_by, flight_of, note_of, given_record, IsHeldAt, GivesItem, GivesFirst, Leads, LeadAll}
+use Rattle.vm_exchange.specs.Messages.{made_by, flight_of}
+use Rattle.vm_stands.specs.Flight.{note_of, given_record, IsHeldAt, GivesItem, GivesFirst, Leads, LeadAll}
 use Rattle.vm_stands.proofs.AheadLemmas.{flight_steps, call_model}
 use Rattle.vm_stands.proofs.FlightLemmas.{made_steps, all_replay}
 use Rattle.vm_stands.proofs.GivenLemmas.{given_seen}

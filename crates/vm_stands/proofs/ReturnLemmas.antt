@@ -32,7 +32,8 @@ use Rattle.vm_session.specs.declared.running.Running.{Running}
 use Rattle.vm_session.specs.State.{SessionState, pictures, queue_of as session_queue}
 use Rattle.vm_session.specs.Streaming.{stamp_of, note_of as session_note, returned}
 use Rattle.vm_stands.specs.Stands.{seconds_of, micros_of, IsMemoryAt, StandsOn, IsHead, IsNext}
-use Rattle.vm_stands.specs.Flight.{is_marked, is_first, frame_step, made_by, note_of, IsHeldAt, GivesBuffer}
+use Rattle.vm_exchange.specs.Messages.{is_marked, is_first, frame_step, made_by}
+use Rattle.vm_stands.specs.Flight.{note_of, IsHeldAt, GivesBuffer}
 use Rattle.vm_stands.proofs.FrameLemmas.{frame_buffer, frame_queue, frame_head}
 use Rattle.vm_stands.proofs.TookLemmas.{IsTaken}
 

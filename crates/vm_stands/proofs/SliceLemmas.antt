@@ -32,7 +32,8 @@ use Rattle.vm_session.specs.State.{SessionState, opening_session}
 use Rattle.vm_session.specs.Sound.{IsSound}
 use Rattle.vm_session.specs.Streaming.{can_begin, next_job, begun, events_of, finished, finished_by, with_returned, sent, sent_of}
 use Rattle.vm_stands.specs.Stands.{Stands, IsNext, IsNextIf}
-use Rattle.vm_stands.specs.Flight.{flight_of, steps_of, stops_queues, ahead_of, LeadAll}
+use Rattle.vm_exchange.specs.Messages.{flight_of, steps_of}
+use Rattle.vm_stands.specs.Flight.{stops_queues, ahead_of, LeadAll}
 use Rattle.vm_stands.specs.Ahead.{StopsNone, MayDeliver}
 use Rattle.vm_stands.specs.Slice.{LeadWith, LeadAhead, IsSlice, GoesOn}
 use Rattle.vm_stands.proofs.SeenLemmas.{seen, seen_stands}

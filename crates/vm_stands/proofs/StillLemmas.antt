@@ -42,7 +42,8 @@ use Rattle.vm_exchange.specs.declared.way.Way.{Way}
 use Rattle.vm_exchange.specs.declared.way.Way.TheVariants.{Crosses, AnsweredHere}
 use Rattle.vm_exchange.specs.Exchange.{user_of_kind, user_bound, user_named, address_of, memory_number, memory_place, buffer_queued, sends, from_open, unless_by, qbuf_crossing, way_of, response_to}
 use Rattle.vm_session.specs.declared.unsent.Unsent.{Unsent}
-use Rattle.vm_stands.specs.Flight.{flight_of, LeadAll}
+use Rattle.vm_exchange.specs.Messages.{flight_of}
+use Rattle.vm_stands.specs.Flight.{LeadAll}
 use Rattle.vm_commute.proofs.EventsLemmas.{by_first}
 use Rattle.vm_stands.proofs.AheadLemmas.{flight_steps}
 use Rattle.vm_stands.proofs.FlightLemmas.{all_replay}

@@ -33,7 +33,8 @@ use Rattle.vm_session.specs.declared.unsent.Unsent.{Unsent}
 use Rattle.vm_session.specs.State.{SessionState, queue_of as session_queue}
 use Rattle.vm_session.specs.Sound.{IsSound, given_back, returning, taken_by, all_out, indices_of}
 use Rattle.vm_stands.specs.Stands.{of_type, Stands}
-use Rattle.vm_stands.specs.Flight.{made_by, note_of, queued_record, GivesItem, GivesFirst, Leads, LeadAll}
+use Rattle.vm_exchange.specs.Messages.{made_by}
+use Rattle.vm_stands.specs.Flight.{note_of, queued_record, GivesItem, GivesFirst, Leads, LeadAll}
 use Rattle.vm_stands.proofs.SeenLemmas.{idle_seen}
 use Rattle.vm_stands.proofs.FlightLemmas.{made_steps}
 use Rattle.vm_stands.proofs.NextLemmas.{waiting_there}

@@ -14,7 +14,8 @@ use Rattle.vm_commute.specs.Commute.{may_go_first, SameButFlags, SameButEvents}
 use Rattle.vm_home.specs.Moves.{is_stopping}
 use Rattle.vm_home.specs.Reached.{IsReached}
 use Rattle.vm_session.specs.declared.unsent.Unsent.{Unsent}
-use Rattle.vm_stands.specs.Flight.{steps_of, stops_queues, ahead_of, LeadAll}
+use Rattle.vm_exchange.specs.Messages.{steps_of}
+use Rattle.vm_stands.specs.Flight.{stops_queues, ahead_of, LeadAll}
 
 -- what was executed and isn't collected doesn't stop queues
 abbrev pub StopsNone : Option Entry → Type 0

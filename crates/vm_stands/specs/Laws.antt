@@ -38,7 +38,8 @@ use Rattle.vm_session.specs.Rows.{IoctlRow, IoctlAnswer, outcome_of, ioctl_outco
 use Rattle.vm_session.specs.Sound.{IsSound}
 use Rattle.vm_session.specs.Streaming.{can_begin, next_job, begun, events_of, finished, sent}
 use Rattle.vm_stands.specs.Stands.{Stands, IsNext}
-use Rattle.vm_stands.specs.Flight.{flight_of, LeadAll}
+use Rattle.vm_exchange.specs.Messages.{flight_of}
+use Rattle.vm_stands.specs.Flight.{LeadAll}
 
 -- ---- messages
 

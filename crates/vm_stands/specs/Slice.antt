@@ -32,7 +32,8 @@ use Rattle.vm_session.specs.State.{SessionState, opening_session, is_quiet}
 use Rattle.vm_session.specs.Sound.{IsSound}
 use Rattle.vm_session.specs.Streaming.{can_begin, next_job, begun, finished, sent}
 use Rattle.vm_stands.specs.Stands.{Stands, IsNextIf}
-use Rattle.vm_stands.specs.Flight.{steps_of, stops_queues, ahead_of, LeadAll}
+use Rattle.vm_exchange.specs.Messages.{steps_of}
+use Rattle.vm_stands.specs.Flight.{stops_queues, ahead_of, LeadAll}
 use Rattle.vm_stands.specs.Ahead.{StopsNone, MayDeliver}
 use Rattle.vm_stands.specs.Laws.{frames_by, names_alone, Along, is_subscription}
 
