@@ -1,6 +1,6 @@
 ghost use Rattle.std.specs.Prelude.{◌≡◌, ◌≤◌, Contains, length};
 ghost use Rattle.vm_link.specs.Parcel.{IsPostable};
-ghost use Rattle.vm_link.specs.Queue.{Queues, queue_at, with_queue, free_count, out_heads, posted, Takes, finished, first_finished, collected};
+ghost use Rattle.vm_link.specs.Queue.{Queues, queue_at, with_queue, used_count, free_count, out_heads, posted, Takes, finished, first_finished, collected};
 
 use crate::{Finished, Parcel, Taken};
 use vm_chain::Chain;
@@ -72,9 +72,11 @@ pub trait Link {
             (queues self.old) };
 
     /// The driver collects the first chain that is finished, and so frees its descriptors. `None`
-    /// exactly where none is.
+    /// exactly where none is. No more descriptors were in use than the queue has.
     fn collect(&mut self, q: QueueId) -> Option<Finished>
         ensures done { result ≡ first_finished (queue_at q (queues self.old)).done }
         ensures queues { queues self.new ≡ with_queue q (collected (queue_at q (queues self.old)))
-            (queues self.old) };
+            (queues self.old) }
+        ensures fits { used_count (queue_at q (queues self.old)) ≤
+            (queue_at q (queues self.old)).size };
 }

@@ -1,6 +1,6 @@
 ghost use Rattle.std.specs.Prelude.{◌≡◌, ◌≤◌, ◌<◌, ◌^◌, Contains, IfOk, length, sum_by};
 ghost use Rattle.vm_link.specs.Parcel.{IsPostable};
-ghost use Rattle.vm_link.specs.Queue.{empty_queue, free_count, out_heads, posted, Takes, finished, first_finished, collected};
+ghost use Rattle.vm_link.specs.Queue.{empty_queue, used_count, free_count, out_heads, posted, Takes, finished, first_finished, collected};
 
 use crate::chain_lists::{count_at, counts_of_done, counts_of_out, counts_of_waiting, remove};
 use crate::heads::all_heads;
@@ -132,6 +132,7 @@ impl PlainQueue {
     pub fn collect(&mut self) -> Option<Finished>
         ensures done { result ≡ first_finished self.old.done }
         ensures queue { self.new ≡ collected self.old }
+        ensures fits { used_count self.old ≤ self.old.size }
     {
         let chain = self.done.pop_front()?;
         self.free_heads.push_reserved(chain.finished.head);

@@ -58,6 +58,10 @@ used_is k sound =
 pub free_is : (k : Kept) → IsSound k → free_count (queue_of k) ≡ length (free_places k.owners)
 free_is k sound = let used = used_is k sound in let all = sound.chains.counted in omega (arith, used, all)
 
+-- the chains fit the queue
+pub fits : (k : Kept) → IsSound k → used_count (queue_of k) ≤ k.size
+fits k sound = let used = used_is k sound in let all = sound.chains.counted in omega (arith, used, all)
+
 -- the lists are no longer than the descriptors allow
 pub short : (k : Kept) → IsSound k → ahead k.taken k.contents.available_index + length k.out + ahead k.collected k.contents.used_index + length (free_places k.owners) ≤ k.size
 short k sound =

@@ -1,6 +1,6 @@
 ghost use Rattle.std.specs.Prelude.{◌≡◌, ◌≤◌, Contains, IfOk, length};
 ghost use Rattle.vm_link.specs.Parcel.{IsPostable};
-ghost use Rattle.vm_link.specs.Queue.{queue_at, with_queue, free_count, out_heads, posted, Takes, finished, first_finished, collected};
+ghost use Rattle.vm_link.specs.Queue.{queue_at, with_queue, used_count, free_count, out_heads, posted, Takes, finished, first_finished, collected};
 ghost use Rattle.vm_split.specs.Link.{state_at, with_state, queues_of};
 ghost use Rattle.vm_split.specs.Owners.{freed, lowest_handed_out};
 ghost use Rattle.vm_split.specs.Ring.{IsRingSize};
@@ -153,6 +153,8 @@ impl Link for SplitLink {
         ensures done { result ≡ first_finished (queue_at q (queues_of self.old)).done }
         ensures queues { queues_of self.new
             ≡ with_queue q (collected (queue_at q (queues_of self.old))) (queues_of self.old) }
+        ensures fits { used_count (queue_at q (queues_of self.old)) ≤
+            (queue_at q (queues_of self.old)).size }
         ensures owners { (state_at q self.new).owners
             ≡ freed result (state_at q self.old).owners }
         ensures count { (state_at q self.new).collected

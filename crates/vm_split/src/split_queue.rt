@@ -1,6 +1,6 @@
 ghost use Rattle.std.specs.Prelude.{◌≡◌, ◌≤◌, Contains, IfOk, length};
 ghost use Rattle.vm_link.specs.Parcel.{IsPostable};
-ghost use Rattle.vm_link.specs.Queue.{free_count, out_heads, posted, Takes, finished, first_finished, collected};
+ghost use Rattle.vm_link.specs.Queue.{used_count, free_count, out_heads, posted, Takes, finished, first_finished, collected};
 ghost use Rattle.vm_split.specs.Owners.{freed, lowest_handed_out};
 ghost use Rattle.vm_split.specs.Ring.{IsRingSize};
 ghost use Rattle.vm_split.specs.Stands.{StandsFor, CountsStay, raised, new_state};
@@ -181,6 +181,7 @@ impl SplitQueue {
     pub fn collect(&mut self) -> Option<Finished>
         ensures done { result ≡ first_finished self.old.queue.done }
         ensures queue { self.new.queue ≡ collected self.old.queue }
+        ensures fits { used_count self.old.queue ≤ self.old.queue.size }
         ensures bytes { self.new.bytes ≡ self.old.bytes }
         ensures owners { self.new.owners ≡ freed result self.old.owners }
         ensures count { self.new.collected ≡ raised result self.old.collected }

@@ -1,11 +1,11 @@
-use Rattle.std.proofs.Common.{◌≡◌, set, Some, None, refl, ap, sym, ◌∙◌, subst, arith, rules}
+use Rattle.std.proofs.Common.{◌≡◌, ◌≤◌, set, Some, None, refl, ap, sym, ◌∙◌, subst, arith, rules}
 use Rattle.std.proofs.lemmas.Grind.{common_steps}
-use Rattle.vm_link.specs.Queue.{Queue, first_finished, collected}
+use Rattle.vm_link.specs.Queue.{Queue, used_count, first_finished, collected}
 use Rattle.vm_split.specs.declared.entry.UsedEntry.{UsedEntry}
 use Rattle.vm_split.specs.Kept.{Kept, queue_of, IsSound, parcel_at}
 use Rattle.vm_split.specs.Owners.{taken_back}
 use Rattle.vm_split.specs.Stands.{SplitState}
-use Rattle.vm_split.proofs.KeptLemmas.{kept_same, all_written, set_same, back_same, found, some_same, some_done, first_entry, done_is, with_collected, collected_sound, collected_first, collected_queue}
+use Rattle.vm_split.proofs.KeptLemmas.{fits, kept_same, all_written, set_same, back_same, found, some_same, some_done, first_entry, done_is, with_collected, collected_sound, collected_first, collected_queue}
 use Rattle.vm_split.proofs.OwnerLemmas.{length-taken_back}
 use Rattle.vm_split.proofs.RingLemmas.{size_most}
 use Rattle.vm_split.proofs.split_queue.SplitQueue.collect.Goals as goal
@@ -113,3 +113,13 @@ returns-clause-owners c =
     (c.take_back.ensures ∙ back_same _ _ _ _ c.as_mut_slice-2.ensures.value head) in
     let before = ap (λ (s : SplitState). s.owners) c.self.view_is in
     owners ∙ back_same _ _ _ _ before (sym head)
+
+pub returns-then-uncollected-eq0-clause-fits : goal.returns-then-uncollected-eq0-clause-fits
+returns-then-uncollected-eq0-clause-fits c =
+    let k : Kept = record { size = c.self.inside.ring.size; contents = c.self.inside.ring.contents; taken = c.self.inside.taken; collected = c.self.inside.collected; owners = c.self.inside.owners.items; parcels = c.self.inside.parcels.items; out = c.self.inside.out.items } in
+    subst (λ (s : SplitState). used_count s.queue ≤ s.queue.size) c.self.view_is (fits k c.self.invariant.0)
+
+pub returns-clause-fits : goal.returns-clause-fits
+returns-clause-fits c =
+    let k : Kept = record { size = c.self.inside.ring.size; contents = c.self.inside.ring.contents; taken = c.self.inside.taken; collected = c.self.inside.collected; owners = c.self.inside.owners.items; parcels = c.self.inside.parcels.items; out = c.self.inside.out.items } in
+    subst (λ (s : SplitState). used_count s.queue ≤ s.queue.size) c.self.view_is (fits k c.self.invariant.0)
