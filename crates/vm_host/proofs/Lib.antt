@@ -1,8 +1,13 @@
+pub mod DoneLemmas
 pub mod FollowLemmas
 pub mod FreshLemmas
 pub mod GrowthLemmas
+pub mod OfferLemmas
+pub mod OneLemmas
 pub mod PartLemmas
+pub mod QuietLemmas
 pub mod ReadLemmas
+pub mod RigLemmas
 pub mod RiseLemmas
 pub mod ServeLemmas
 pub mod WaitingLemmas

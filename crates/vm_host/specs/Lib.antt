@@ -4,3 +4,4 @@ pub mod Chains
 pub mod Steps
 pub mod Keeps
 pub mod Part
+pub mod Growth

@@ -1,6 +1,7 @@
 -- The device's part of each step, over what is said on the link. Nothing here reads the driver's
 -- side, and no table, page or head is seen.
-use Rattle.std.specs.Prelude.{ℕ, ◌≡◌, Bool, true, false, List, [], ◌∷◌, ◌++◌, Option, Some, None, Result, Ok, Err, nat_lt, length, map, if◌then◌else◌}
+use Rattle.std.specs.Prelude.{ℕ, ◌≡◌, ◌==◌, ◌&&◌, Bool, true, false, not, List, [], ◌∷◌, ◌++◌, Option, Some, None, Result, Ok, Err, nat_lt, length, map, if◌then◌else◌}
+use Rattle.std.specs.List.{filter, list_any}
 use Rattle.std.specs.Option.{option_to_list}
 use Rattle.vm_chain.specs.Chain.{writable_bytes}
 use Rattle.vm_chain.specs.declared.desc.Desc.{Desc}
@@ -14,7 +15,7 @@ use Rattle.vm_wire.specs.Wire.{response_bytes}
 use Rattle.vm_wire.specs.declared.command.Command.{Command}
 use Rattle.vm_wire.specs.declared.command.CmdFault.{CmdFault}
 use Rattle.vm_wire.specs.declared.delivery.Delivery.{Delivery}
-use Rattle.vm_device.specs.Device.{DeviceState, session_of, is_at_rest}
+use Rattle.vm_device.specs.Device.{DeviceState, session_of, is_ready, is_at_rest, ready_ids as ready_in}
 use Rattle.vm_device.specs.Perform.{Answer, Performs, must_wait}
 use Rattle.vm_device.specs.Stream.{Sends}
 use Rattle.vm_host.specs.Chains.{Sent, chain_in, asked_by, behind, named_session, refusal_of_fault}
@@ -67,6 +68,29 @@ part_of h = record { device = h.device; calls = map call_of h.waiting }
 
 abbrev pub call_for : ℕ → List Call → Option Call
 call_for session calls = found (λ c. c.session) session calls
+
+-- ---- what can be done
+
+-- a call of this session waits
+abbrev pub waits : Part → ℕ → Bool
+waits s session = list_any (λ c. c.session == session) s.calls
+
+-- a job of the session can begin: none does while a call of it waits
+abbrev pub can_begin : Part → ℕ → Bool
+can_begin s session = not (waits s session) && is_ready (session_of s.device session)
+
+-- a call of the session waits, and the session is quiet
+abbrev pub can_resume : Part → ℕ → Bool
+can_resume s session = waits s session && is_at_rest (session_of s.device session)
+
+-- the sessions for which a job can begin, by rising id
+abbrev pub ready_ids : Part → List ℕ
+ready_ids s = filter (λ session. not (waits s session)) (ready_in s.device)
+
+-- the sessions whose waiting call can go on, by rising id
+abbrev pub resumable_ids : Part → List ℕ
+resumable_ids s =
+    filter (λ session. is_at_rest (session_of s.device session)) (map (λ c. c.session) s.calls)
 
 -- ---- what is done
 

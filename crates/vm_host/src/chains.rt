@@ -163,7 +163,8 @@ fn answer(device: &mut Device, chain: &Chain, bytes: &mut Vec<u8>, parcel: &mut 
     requires place { IfOk (asked_by chain.now.descs parcel.old.pages) (HasPlaceFor device.old) }
     requires frames { EachMadeFew device.old }
     requires held { IfOk (asked_by chain.now.descs parcel.old.pages) (HasRoomFor parcel.old) }
-    ensures served { Served None chain.now.descs parcel.old device.old result parcel.new device.new }
+    ensures served { Served None chain.now.descs parcel.old device.old result
+        parcel.new device.new }
     ensures room { vec_capacity bytes.old ≤ vec_capacity bytes.new }
 {
     let writable = chain.writable();
@@ -196,7 +197,8 @@ pub(crate) fn serve(
     requires frames { EachMadeFew device.old }
     requires held { fault ≡ None →
         IfOk (asked_by chain.now.descs parcel.old.pages) (HasRoomFor parcel.old) }
-    ensures served { Served fault chain.now.descs parcel.old device.old result parcel.new device.new }
+    ensures served { Served fault chain.now.descs parcel.old device.old result
+        parcel.new device.new }
     ensures room { vec_capacity bytes.old ≤ vec_capacity bytes.new }
 {
     match fault {

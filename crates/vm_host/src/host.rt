@@ -1,4 +1,4 @@
-ghost use Rattle.std.specs.Prelude.{ℕ, ◌≡◌, ◌≤◌, ◌<◌, ◌-◌, ◌^◌, filter, map, not, IfOk, IfErr, OnOk, OnErr, length, nat_lt};
+ghost use Rattle.std.specs.Prelude.{ℕ, ◌≡◌, ◌≤◌, ◌<◌, ◌-◌, ◌^◌, filter, map, not, IfOk, IfErr, OnOk, OnErr, length, nat_lt, slice_get};
 ghost use Rattle.vm_link.specs.Queue.{queue_at};
 ghost use Rattle.vm_link.specs.declared.link.QueueId.TheVariants.{Command as Commands, Event as Events};
 ghost use Rattle.vm_device.specs.Keeps.{RiseBelow};
@@ -76,6 +76,23 @@ fn count_quiet(waiting: &[Waiting], device: &Device) -> usize
         .map(|call| call.session)
         .filter(|session| device.is_quiet(*session))
         .count()
+}
+
+/// The session at this place among those of these calls that are quiet.
+fn quiet_at(waiting: &[Waiting], device: &Device, place: usize) -> Option<u32>
+    ensures { result ≡ slice_get (filter (λ session. is_at_rest (session_of device.now session))
+        (map (λ w. w.session) waiting.now)) place }
+{
+    let mut left = place;
+    for call in waiting {
+        if device.is_quiet(call.session) {
+            if left == 0 {
+                return Some(call.session);
+            }
+            left -= 1;
+        }
+    }
+    None
 }
 
 impl Host {
@@ -327,5 +344,12 @@ impl Host {
         ensures { result ≡ length (resumable_ids self.now) }
     {
         count_quiet(&self.waiting, &self.device)
+    }
+    /// The session at this place among those whose waiting call can go on, by rising id. No session
+    /// without one is looked at.
+    pub fn resumable_at(&self, place: usize) -> Option<u32>
+        ensures { result ≡ slice_get (resumable_ids self.now) place }
+    {
+        quiet_at(&self.waiting, &self.device, place)
     }
 }

@@ -10,7 +10,9 @@ mod waiting;
 
 pub use host::Host;
 pub use laws::{
-    announcing_is_the_part, closing_leaves_the_journal, resuming_is_the_part, serving_is_the_part,
+    announcing_is_the_part, closing_leaves_the_journal, each_step_does_little,
+    few_steps_leave_places, resuming_is_the_part, serving_is_the_part,
+    what_can_be_done_is_the_parts,
 };
 pub use waiting::Waiting;
 

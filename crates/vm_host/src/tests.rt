@@ -1,5 +1,8 @@
 ghost use Rattle.std.specs.Prelude.{◌≤◌, length};
 
+mod capture;
+mod rig;
+
 use super::*;
 use std::alloc::Global;
 use std::test::Fail;
@@ -166,6 +169,7 @@ fn nothing_is_to_be_done_at_first(rt: HostRuntime) -> Result<(), Fail> {
     assert_eq!(rt; (host.opened(), host.has_unsent()), (0, false));
     assert_eq!(rt; (host.can_begin(0), host.can_resume(0)), (false, false));
     assert_eq!(rt; (host.ready_len(), host.resumable_len()), (0, 0));
+    assert!(rt; host.resumable_at(0).is_none());
     assert!(rt; host.jobs_out().is_empty());
     assert!(rt; host.waiting().is_empty());
     assert!(rt; host.region().journal().is_empty());
