@@ -56,7 +56,7 @@ step_keeps l session stage e home keeps step goes =
 
 -- ---- several
 
-abbrev AreSteps : List Entry → Type 0
+abbrev pub AreSteps : List Entry → Type 0
 AreSteps [] = Unit {0}
 AreSteps (e ∷ es) = IsStep e × AreSteps es
 
@@ -87,12 +87,12 @@ made_steps_by true true = (tt, tt)
 made_steps_by true false = (tt, tt)
 made_steps_by false marked = tt
 
-made_steps : (m : Model) (msg : EventMsg) → AreSteps (made_by m msg)
+pub made_steps : (m : Model) (msg : EventMsg) → AreSteps (made_by m msg)
 made_steps m (Happened session event) = (tt, tt)
 made_steps m (Dequeued session b) = made_steps_by (is_first (source_queue m) m b) (is_marked m b)
 
 -- the frame of a message that may be delivered can be made
-made_goes_all : (s : LocalState) (msg : EventMsg) → IsSome (replay_from s (steps_of s.model msg)) → IsSome (replay_from s (made_by s.model msg))
+pub made_goes_all : (s : LocalState) (msg : EventMsg) → IsSome (replay_from s (steps_of s.model msg)) → IsSome (replay_from s (made_by s.model msg))
 made_goes_all s msg legal =
     first_goes (replay_from s (made_by s.model msg)) (λ t. replay_from t (Give ∷ [])) (subst (λ o. IsSome o) (replay_from_append s (made_by s.model msg) (Give ∷ [])) legal)
 

@@ -5,7 +5,9 @@ pub mod UserLemmas
 pub mod AnswerLemmas
 pub mod MessageLemmas
 pub mod DeliverLemmas
+pub mod DeliveredLemmas
 pub mod StartLemmas
 pub mod ReplyLemmas
 pub mod BegunLemmas
 pub mod OpenLemmas
+pub mod KeptLemmas

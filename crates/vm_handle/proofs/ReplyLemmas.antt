@@ -98,7 +98,7 @@ along_with id s next line call reply away crosses along goes = along
 -- ---- the call that is underway
 
 -- only a call of such a kind crosses
-may_of : (id : ℕ) (s : LocalState) (call : Call) → IsSome (crossing_of id s call) → may_cross call ≡ true
+pub may_of : (id : ℕ) (s : LocalState) (call : Call) → IsSome (crossing_of id s call) → may_cross call ≡ true
 may_of id s (UAlloc u len off) crosses = absurd (false≢true crosses)
 may_of id s (DqBuf t) crosses = absurd (dqbuf_stays (first_refusal (row_of s 0 0 (DqBuf t)).refusals) (row_of s 0 0 (DqBuf t)).waits crosses)
 may_of id s (Peek m off len) crosses = absurd (false≢true crosses)
@@ -244,11 +244,11 @@ lent_rests id s entry unanswered (Underway line call) fits = absurd (never_along
     never_along (Some n) is = cc
 lent_rests id s entry unanswered (Waiting line call) fits = let w : Lent entry ≡ Nothing = fits.1 in cc
 
-not_false : (b : Bool) → (b ≡ false → ⊥) → b ≡ true
+pub not_false : (b : Bool) → (b ≡ false → ⊥) → b ≡ true
 not_false true h = refl
 not_false false h = absurd (h refl)
 
-gave_by : (l : LogState) (session : Option ℕ) (stage : Stage) (lease : LeaseParts) (away : Away) → l.away ≡ away → Keeps l session stage →
+pub gave_by : (l : LogState) (session : Option ℕ) (stage : Stage) (lease : LeaseParts) (away : Away) → l.away ≡ away → Keeps l session stage →
     (is_lent_to away lease.line ≡ false → ⊥) → (is_lent_to away lease.line ≡ true → IsDone (lease_in away) lease) → MayFollow l (Called lease.line lease.call lease.reply) →
     Keeps (given_back l lease) session stage
 gave_by l session stage lease Nothing is keeps mine done goes = absurd (mine refl)

@@ -11,7 +11,7 @@ ghost use Rattle.vm_log.specs.LegalLog.{state_of, lease_in, is_lent_to};
 ghost use Rattle.vm_wire.specs.Wire.{IsCommand};
 ghost use Rattle.vm_handle.specs.declared.stage.Stage.TheVariants.{Underway};
 ghost use Rattle.vm_handle.specs.Messages.{Delivers};
-ghost use Rattle.vm_handle.specs.Handle.{fresh_handle, way_from, crossing_from, has_opened};
+ghost use Rattle.vm_handle.specs.Handle.{fresh_handle, way_from, crossing_from, has_opened, Keeps};
 ghost use Rattle.vm_handle.specs.Answers.{IsCrossing, Starts, AnswersWith, row_from, session_from, with_reply, delivered};
 
 use crate::answer::answer_here;
@@ -146,6 +146,8 @@ impl Handle {
             (state_of self.old.log) line call.now response.now reply →
             self.new ≡ with_reply self.old line call.now reply response.now held.old.items }
         ensures held { held.new.items ≡ [] }
+        ensures room { vec_capacity held.new ≡ vec_capacity held.old }
+        ensures keeps { Keeps self.new.log self.new.session self.new.stage }
     {
         let reply = words(reply_in(self.log.record(), call, response));
         self.log.reply(line, call, &reply, held);

@@ -64,7 +64,7 @@ keeps_called m log items line call reply kept moved home away was same keeps non
     (still (state_after m log) (state_after m (log ++ e ∷ [])) e None home (reached_of m log k.legal) stays (leads m log e k.legal goes) k.in_place) tt) keeps
 
 -- a call that makes user memory
-made_home : (s t : LocalState) (line : ℕ) (call : Call) (reply : Reply) (mem : Mem) (home : List (Option Mem)) → IsReached s → called s line call reply ≡ Some t →
+pub made_home : (s t : LocalState) (line : ℕ) (call : Call) (reply : Reply) (mem : Mem) (home : List (Option Mem)) → IsReached s → called s line call reply ≡ Some t →
     IsMadeBy call reply (mem_bytes mem) → AreInPlace s None home → AreInPlace t None (home ++ Some mem ∷ [])
 made_home s t line (UAlloc u len off) (Pages pages) mem home reached goes made h = ualloc_home s t line u len off pages mem home reached goes made h
 made_home s t line (UAlloc u len off) reply mem home reached goes made h = absurd made
@@ -80,13 +80,19 @@ keeps_made m log items line call reply mem kept moved home away was same keeps n
     (made_home (state_after m log) (state_after m (log ++ e ∷ [])) line call reply mem home (reached_of m log k.legal) (leads m log e k.legal goes) made k.in_place) tt) keeps
 
 -- what is out with a call that is answered
-refused_none : (s : LocalState) (along : Option ℕ) (away : Away) (reply : Reply) → AlongWith along away reply → is_refusal reply ≡ true → number_away s away ≡ None
+pub refused_none : (s : LocalState) (along : Option ℕ) (away : Away) (reply : Reply) → AlongWith along away reply → is_refusal reply ≡ true → number_away s away ≡ None
 refused_none s None away reply with is = ap (λ a. number_away s a) with
 refused_none s (Some number) away reply with is = absurd (true≢false (sym is ∙ with.1))
 
-with_along : (s : LocalState) (along : Option ℕ) (away : Away) (reply : Reply) → AlongWith along away reply → number_away s away ≡ along
+pub with_along : (s : LocalState) (along : Option ℕ) (away : Away) (reply : Reply) → AlongWith along away reply → number_away s away ≡ along
 with_along s None away reply with = ap (λ a. number_away s a) with
 with_along s (Some number) away reply with = ap (λ a. number_away s a) with.0
+
+pub crosses_home : (call : Call) → may_cross call ≡ true → may_cross_home call ≡ true
+crosses_home (UAlloc u len off) is = absurd (false≢true is)
+crosses_home (Poke m off bytes) is = absurd (false≢true is)
+crosses_home (Fill m seed) is = absurd (false≢true is)
+crosses_home call is = refl
 
 -- a call that crossed, with the memories that came with its reply
 pub keeps_replied : (m : Model) (log items : List Entry) (line : ℕ) (call : Call) (reply : Reply) (held : List Held) (kept moved : LocalState) (home mid new : List (Option Mem)) (away : Away) (was : Bool) →
@@ -106,17 +112,11 @@ keeps_replied m log items line call reply held kept moved home mid new away was 
     let drops : LetsGo t mid new = record { places = gone.places; kept = gone.kept; gone = gone.gone } in
     keeps_more m log items e kept moved home new away Nothing was false same keeps goes moves
     (lets_go_home t None mid new drops (subst (λ hs. AreInPlace t None hs) (sym is) settles)) tt
-  where
-    crosses_home : (call : Call) → may_cross call ≡ true → may_cross_home call ≡ true
-    crosses_home (UAlloc u len off) is = absurd (false≢true is)
-    crosses_home (Poke m off bytes) is = absurd (false≢true is)
-    crosses_home (Fill m seed) is = absurd (false≢true is)
-    crosses_home call is = refl
 
 -- ---- steps of the device
 
 -- what is out is as it was
-away_stays : (s t : LocalState) (e : Entry) (away : Away) (unanswered : Bool) → IsReached s → IsStep e → after s e ≡ Some t → IsAway s away unanswered →
+pub away_stays : (s t : LocalState) (e : Entry) (away : Away) (unanswered : Bool) → IsReached s → IsStep e → after s e ≡ Some t → IsAway s away unanswered →
     (number_away t away ≡ number_away s away) × IsAway t away unanswered
 away_stays s t e Nothing unanswered reached step leads out = (refl, tt)
 away_stays s t e (Sent number) unanswered reached step leads out =
@@ -187,7 +187,7 @@ number_shown s (o ∷ rest) = by_item o.item
 pub first_shown : (s kept : LocalState) (n : ℕ) → kept ≡ without_bytes s → n ≡ first_number kept → n ≡ first_number s
 first_shown s kept n shown is = is ∙ (ap first_number shown ∙ number_shown s s.owed)
 
-apart_away : (s : LocalState) (away : Away) (unanswered : Bool) (n : ℕ) → IsAway s away unanswered → is_lent s n ≡ true → is_just (number_away s away) n ≡ false
+pub apart_away : (s : LocalState) (away : Away) (unanswered : Bool) (n : ℕ) → IsAway s away unanswered → is_lent s n ≡ true → is_just (number_away s away) n ≡ false
 apart_away s Nothing unanswered n out lent_n = refl
 apart_away s (Sent number) unanswered n out lent_n = lent_apart s n number lent_n out.1
 apart_away s (Lent entry) unanswered n out lent_n = lent_apart s n (touched s entry.call) lent_n (touches_it s 0 0 entry.call out.1 (out.2 0 0)).unlent

@@ -5,3 +5,5 @@ pub mod KeepLemmas
 pub mod ViewLemmas
 pub mod OutLemmas
 pub mod StepLemmas
+pub mod FreshLemmas
+pub mod SoundLemmas

@@ -38,7 +38,7 @@ leads m log e legal goes =
     then_some (replay m log) (opening m) (λ t. after t e) legal goes ∙ ap (λ o. Some (unwrap_or o (opening m))) (sym (replay_from_push (opening m) log e))
 
 -- which is legal
-legal_more : (m : Model) (log : List Entry) (e : Entry) → IsLegal m log → IsSome (after (state_after m log) e) → IsLegal m (log ++ e ∷ [])
+pub legal_more : (m : Model) (log : List Entry) (e : Entry) → IsLegal m log → IsSome (after (state_after m log) e) → IsLegal m (log ++ e ∷ [])
 legal_more m log e legal goes =
     subst (λ o. IsSome o) (sym (replay_from_push (opening m) log e)) (then_is (replay m log) (opening m) (λ t. after t e) legal goes)
 

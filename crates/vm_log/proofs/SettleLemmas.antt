@@ -106,7 +106,7 @@ placed_home s t line call reply held home reached leads come = elim (cases_Bool 
 
 -- ---- an open
 
-opens : (s t : LocalState) (line : ℕ) (call : Call) (reply : Reply) → is_opening call reply ≡ true → called s line call reply ≡ Some t → (nonblock : Bool) × (called s line (OpenHandle nonblock) Done ≡ Some t) × (t ≡ opened_anew s nonblock)
+pub opens : (s t : LocalState) (line : ℕ) (call : Call) (reply : Reply) → is_opening call reply ≡ true → called s line call reply ≡ Some t → (nonblock : Bool) × (called s line (OpenHandle nonblock) Done ≡ Some t) × (t ≡ opened_anew s nonblock)
 opens s t line (OpenHandle nonblock) Done is leads = (nonblock, leads, (went s line (OpenHandle nonblock) Done t refl leads).next)
 opens s t line (OpenHandle nonblock) reply is leads = absurd (false≢true is)
 opens s t line call reply is leads = absurd (false≢true is)

@@ -1,5 +1,5 @@
 //! Lines that are answered.
-ghost use Rattle.std.specs.Prelude.{◌≡◌, ◌++◌, ◌∷◌, [], true, false, Some};
+ghost use Rattle.std.specs.Prelude.{◌≡◌, ◌++◌, ◌∷◌, [], true, false, Some, vec_capacity};
 ghost use Rattle.vm_frame.specs.Mem.{mem_bytes};
 ghost use Rattle.vm_home.specs.Moves.{moves_at, goes_along, ComeWith};
 ghost use Rattle.vm_commute.specs.Commute.{may_cross};
@@ -49,6 +49,7 @@ impl LegalLog {
             ComeWith (state_of self.old) next call.now reply.now held.old.items }
         ensures log { self.new ≡ replied self.old line call.now reply.now held.old.items }
         ensures held { held.new.items ≡ [] }
+        ensures capacity { vec_capacity held.new ≡ vec_capacity held.old }
     {
         let entry = Entry::Called {
             line,

@@ -61,6 +61,7 @@ pub fn put_back(kept: &Record, home: &mut Home, held: &mut Vec<Held>, fresh: usi
           (take (length held.old.items - fresh) held.old.items) home.old.places;
     } }
     ensures held { held.new.items ≡ drop (length held.old.items - fresh) held.old.items }
+    ensures capacity { vec_capacity held.new ≡ vec_capacity held.old }
 {
     while held.len() > fresh {
         let first = held.remove(0);
@@ -77,6 +78,7 @@ pub fn add_all(home: &mut Home, held: &mut Vec<Held>)
           map (λ h. Some h.mem) held.old.items;
     } }
     ensures held { held.new.items ≡ [] }
+    ensures capacity { vec_capacity held.new ≡ vec_capacity held.old }
 {
     while !held.is_empty() {
         let next = held.remove(0);
@@ -114,6 +116,7 @@ pub fn settle(kept: &Record, home: &mut Home, call: &Call, reply: &Reply, held: 
         home.new.places ≡ settled s call.now reply.now held.old.items home.old.places }
     ensures room { home.new.room ≡ home.old.room }
     ensures held { held.new.items ≡ [] }
+    ensures capacity { vec_capacity held.new ≡ vec_capacity held.old }
 {
     put_back(kept, home, held, fresh_from(call, reply) as usize);
     add_all(home, held);

@@ -1,1 +1,2 @@
-mod PumpLemmas
+pub mod PumpLemmas
+pub mod FilterLemmas

@@ -19,4 +19,5 @@ loop-held-preserved c =
       ap (λ (hs : List (Option Mem)). put_back s (take (length c.remove-first.new.self.items - c.args.fresh) c.remove-first.new.self.items) hs) put ∙ (one.0 ∙ c.loop-held.invariant.0),
       one.1 ∙ c.loop-held.invariant.1,
       ap (λ (h : HomeState). h.room) c.put_at.ensures ∙ c.loop-held.invariant.2,
+      c.remove-first.ensures.capacity ∙ c.loop-held.invariant.3,
     )

@@ -53,3 +53,14 @@ returns-clause-replied c = λ reply may.
     c.self.view_is c.reply.ensures.log c.session_from-self-inside.ensures
     (one_reply h c.args.self.now c.args.line c.args.call.now c.args.response.now c.args.held.now.items c.record.result.now.local c.reply_in.result c.words-reply.result reply
     c.self.view_is c.record.ensures c.reply_in.ensures c.words-reply.ensures.same w may)
+
+pub returns-clause-keeps : goal.returns-clause-keeps
+returns-clause-keeps c =
+    let h : HandleState = record { log = c.self.inside.log; session = c.self.inside.session; stage = c.self.inside.stage } in
+    let w : IsRead h c.args.line c.args.call.now c.args.response.now c.args.held.now.items c.words-reply.result =
+    is_read h c.args.self.now c.args.line c.args.call.now c.args.response.now c.args.held.now.items c.record.result.now.local c.reply_in.result c.words-reply.result
+    c.self.view_is c.requires.underway c.requires.answer c.self.invariant c.record.ensures c.reply_in.ensures c.words-reply.ensures.same in
+    let short : c.args.line < 2 ^ 32 = grind (arith, common_steps) in
+    subst (λ (x : Option ℕ). Keeps c.reply.new.self x AtRest) (sym c.session_from-self-inside.ensures)
+    (replied_keeps c.self.inside.log c.reply.new.self c.self.inside.session c.self.inside.stage c.args.line c.args.call.now c.args.response.now c.args.held.now.items c.words-reply.result
+    w.answer c.self.invariant w.is short c.words-reply.ensures.fit c.reply.ensures.log)
