@@ -1,0 +1,15 @@
+pub mod Asking
+pub mod Raw
+pub mod Chain
+pub mod Message
+pub mod Process
+pub mod Lines
+pub mod Guest
+pub mod Events
+pub mod Steps
+pub mod Part
+pub mod Queues
+pub mod Laws
+pub mod Orderly
+pub mod Caller
+pub mod ByHand
