@@ -1,0 +1,3 @@
+pub mod Across
+pub mod Lines
+pub mod Served
