@@ -1,0 +1,12 @@
+pub mod World
+pub mod Enabled
+pub mod Steps
+pub mod Left
+pub mod Slice
+pub mod SliceSteps
+pub mod Inner
+pub mod Mapped
+pub mod Places
+pub mod Users
+pub mod Sound
+pub mod Laws

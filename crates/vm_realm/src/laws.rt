@@ -1,0 +1,99 @@
+ghost use Rattle.std.specs.Prelude.{ℕ};
+ghost use Rattle.vm_realm.specs.Laws.{CallsKeepSlice, LeftFalls, ListsEnabled, LogsGrow, NoStall, NoStallOnceBegun, OpeningIsSound, OpeningLeft, PumpKeepsSound, SoundCanGoOn, StepKeepsSlice, StepsMoveOne, TakingKeepsSlice, WaitingKeepsSlice, closes_handle, gives_mapping, is_plain};
+ghost use Rattle.vm_commute.specs.Commute.{is_open};
+ghost use Rattle.vm_realm.specs.SliceSteps.{TakingIsPumping};
+ghost use Rattle.vm_realm.specs.declared.step.Step.TheVariants.{Announce, Begin, Collect, Finish, GiveBack, Issue, Lease};
+
+/// The list of steps has just those that may come next.
+pub fn what_may_come_is_listed()
+    ensures { ListsEnabled }
+{}
+
+/// Before the first line of a script there are at most 12 steps left for each of its statements.
+pub fn few_steps_are_left_at_first()
+    ensures { OpeningLeft }
+{}
+
+/// Each step of the world lowers what is left.
+pub fn left_falls()
+    ensures { LeftFalls }
+{}
+
+/// A step that takes all events first is as many steps that take one, and then itself.
+pub fn taking_events_is_pumping()
+    ensures { TakingIsPumping }
+{}
+
+/// Each step lets each handle's log go on from what it was, and leaves the script.
+pub fn logs_grow()
+    ensures { LogsGrow }
+{}
+
+/// Where a line isn't answered some step may come next; and where one was begun, a step that begins
+/// no other.
+pub fn no_line_stalls()
+    ensures goes { NoStall }
+    ensures once_begun { NoStallOnceBegun }
+{}
+
+/// Before the first line of a script the world is a sound one.
+pub fn the_opening_is_sound()
+    ensures { OpeningIsSound }
+{}
+
+/// Where no event is to be taken first, each step is one of one handle, or of none.
+pub fn each_step_moves_one_handle()
+    ensures { StepsMoveOne }
+{}
+
+/// A sound world can go on.
+pub fn a_sound_world_can_go_on()
+    ensures { SoundCanGoOn }
+{}
+
+/// A frame that begins, comes back or is told of keeps a slice sound.
+pub fn frames_keep_a_slice()
+    ensures announce { StepKeepsSlice Announce }
+    ensures begin { (session : ℕ) → StepKeepsSlice (Begin session) }
+    ensures finish { (number : ℕ) → StepKeepsSlice (Finish number) }
+{}
+
+/// An event that is taken keeps a slice sound.
+pub fn taking_keeps_a_slice()
+    ensures { TakingKeepsSlice }
+{}
+
+/// An event that is taken keeps a world sound.
+pub fn an_event_keeps_the_world_sound()
+    ensures { PumpKeepsSound }
+{}
+
+/// A lease that goes out or comes back keeps a slice sound.
+pub fn leases_keep_a_slice()
+    ensures lease { (n : ℕ) → StepKeepsSlice (Lease n) }
+    ensures give_back { (n : ℕ) → StepKeepsSlice (GiveBack n) }
+{}
+
+/// A line that is begun keeps a slice sound.
+pub fn a_line_keeps_a_slice()
+    ensures { (n : ℕ) → StepKeepsSlice (Issue n) }
+{}
+
+/// A reply that is collected keeps a slice sound.
+pub fn a_reply_keeps_a_slice()
+    ensures { StepKeepsSlice Collect }
+{}
+
+/// A call that has to wait in the device keeps a slice sound.
+pub fn a_waiting_call_keeps_a_slice()
+    ensures { WaitingKeepsSlice }
+{}
+
+/// A call that the device does keeps a slice sound: an open, a close, one that moves no memory, and
+/// one that gives a mapping back.
+pub fn calls_keep_a_slice()
+    ensures opens { CallsKeepSlice is_open }
+    ensures closes { CallsKeepSlice closes_handle }
+    ensures plain { CallsKeepSlice is_plain }
+    ensures unmaps { CallsKeepSlice gives_mapping }
+{}
