@@ -64,26 +64,32 @@ abbrev pub filled : Parcel → List Held → ℕ → List ℕ → Parcel
 filled chain held len bytes = with_bytes (with_len (record chain { held = held }) len) bytes
 
 pub own_filled : (p : ℕ) (chain : Parcel) (held : List Held) → IsHome p chain → IsOwn p (record chain { held = held })
-own_filled p chain held home = (home.0, record {
-  behind = home.1.behind;
-  reply = home.1.reply;
-  room = home.1.room;
-  is = ap (λ (x : Parcel). record x { held = held }) home.1.is;
-  roomy = home.1.roomy;
-  whole_command = home.1.whole_command;
-  whole_reply = home.1.whole_reply;
-})
+own_filled p chain held home = (
+  home.0,
+  record {
+    behind = home.1.behind;
+    reply = home.1.reply;
+    room = home.1.room;
+    is = ap (λ (x : Parcel). record x { held = held }) home.1.is;
+    roomy = home.1.roomy;
+    whole_command = home.1.whole_command;
+    whole_reply = home.1.whole_reply;
+  },
+)
 
 pub own_len : (p len : ℕ) (chain : Parcel) → IsOwn p chain → IsOwn p (with_len chain len)
-own_len p len chain own = (len, record {
-  behind = own.1.behind;
-  reply = own.1.reply;
-  room = own.1.room;
-  is = ap (λ (x : Parcel). with_len x len) own.1.is;
-  roomy = own.1.roomy;
-  whole_command = own.1.whole_command;
-  whole_reply = own.1.whole_reply;
-})
+own_len p len chain own = (
+  len,
+  record {
+    behind = own.1.behind;
+    reply = own.1.reply;
+    room = own.1.room;
+    is = ap (λ (x : Parcel). with_len x len) own.1.is;
+    roomy = own.1.roomy;
+    whole_command = own.1.whole_command;
+    whole_reply = own.1.whole_reply;
+  },
+)
 
 -- the chain as it is with a memory along
 pub own_after : (chain chain1 : Parcel) → ((p : ℕ) × IsHome p chain) → chain1 ≡ record chain { held = chain1.held } → (p : ℕ) × IsOwn p chain1

@@ -75,7 +75,7 @@ overtaken_nowhere processes seat none = sym (ap (λ (p : ProcessState). is_overt
 
 nat_lt_suc : (k n : ℕ) → nat_lt (suc k) (suc n) ≡ nat_lt k n
 nat_lt_suc k n = elim (cases_lt k n) as (λ _. nat_lt (suc k) (suc n) ≡ nat_lt k n) [
-  inl w ↦ lt-ltb (suc k) (suc n) (omega arith) ∙ sym (lt-ltb k n w)
+  | inl w ↦ lt-ltb (suc k) (suc n) (omega arith) ∙ sym (lt-ltb k n w)
   | inr w ↦ le-ltb (suc k) (suc n) (omega arith) ∙ sym (le-ltb k n w)
 ]
 

@@ -77,13 +77,16 @@ pub goes_out : (h h' : HandleState) (line : ℕ) (call : Call) (c : Crossing) (a
 goes_out h h' line call c along kept rests more way out =
     let same : SameLog (with_line h.log) out.log = sends_same (goes_along (state_of h.log) call) (with_line h.log) out.log call along out.sends in
     let new : HandleState = record h { log = out.log; stage = Underway line call } in
-    let becomes : Becomes h new (h.log.begun + 1) [] × (new.stage ≡ Underway line call) = (record {
-      kept = kept_crossing h line call c along out.log kept rests more way out.sends;
-      model = same.model;
-      lines = same.lines;
-      so_many = same.begun;
-      answers = ap (λ es. calls_of es) same.entries ∙ no_more (calls_of h.log.entries);
-    }, refl) in
+    let becomes : Becomes h new (h.log.begun + 1) [] × (new.stage ≡ Underway line call) = (
+      record {
+        kept = kept_crossing h line call c along out.log kept rests more way out.sends;
+        model = same.model;
+        lines = same.lines;
+        so_many = same.begun;
+        answers = ap (λ es. calls_of es) same.entries ∙ no_more (calls_of h.log.entries);
+      },
+      refl,
+    ) in
     subst (λ (x : HandleState). Becomes h x (h.log.begun + 1) [] × (x.stage ≡ Underway line call)) (sym out.after) becomes
 
 pub waits : (h : HandleState) (line : ℕ) (call : Call) → IsKept h → h.log.unanswered ≡ false → h.log.begun < h.log.lines → way_from h call ≡ Waits →
@@ -115,13 +118,16 @@ pub answers_itself : (h h' : HandleState) (line : ℕ) (call : Call) → IsKept 
 answers_itself h h' line call kept rests more short way itself =
     let one : OneMore (with_line h.log) itself.log line call = here_more (with_line h.log) itself.log line call itself.answers in
     let new : HandleState = record h { log = itself.log } in
-    let becomes : Becomes h new (h.log.begun + 1) (one_call line call) × (new.log.unanswered ≡ false) = (record {
-      kept = kept_here h line call itself.log kept rests more way short itself.answers;
-      model = one.model;
-      lines = one.lines;
-      so_many = one.begun;
-      answers = one.answers;
-    }, one.rests) in
+    let becomes : Becomes h new (h.log.begun + 1) (one_call line call) × (new.log.unanswered ≡ false) = (
+      record {
+        kept = kept_here h line call itself.log kept rests more way short itself.answers;
+        model = one.model;
+        lines = one.lines;
+        so_many = one.begun;
+        answers = one.answers;
+      },
+      one.rests,
+    ) in
     subst (λ (x : HandleState). Becomes h x (h.log.begun + 1) (one_call line call) × (x.log.unanswered ≡ false)) (sym itself.after) becomes
 
 -- ---- a lease
@@ -145,8 +151,13 @@ leased_by (Some e) h log line call Answered kept leases =
     (record { kept = kept; model = one.model; lines = one.lines; so_many = one.begun; answers = one.answers }, one.rests)
 leased_by None h log line call (Out lease) kept out =
     let P : LogState → Type 0 = λ x. (x.model ≡ h.log.model) × (x.lines ≡ h.log.lines) × (x.begun ≡ h.log.begun + 1) × (calls_of x.entries ≡ calls_of h.log.entries ++ []) × IsLent x line call in
-    let is : P log = subst P (sym out.left) (refl, refl, refl, no_more (calls_of h.log.entries),
-      record { entry = out.entry; out = refl; line_is = out.noted.0 ∙ ap (λ (p : LeaseParts). p.line) out.lent_out; call_is = out.noted.1 ∙ ap (λ (p : LeaseParts). p.call) out.lent_out }) in
+    let is : P log = subst P (sym out.left) (
+      refl,
+      refl,
+      refl,
+      no_more (calls_of h.log.entries),
+      record { entry = out.entry; out = refl; line_is = out.noted.0 ∙ ap (λ (p : LeaseParts). p.line) out.lent_out; call_is = out.noted.1 ∙ ap (λ (p : LeaseParts). p.call) out.lent_out },
+    ) in
     (record { kept = kept; model = is.0; lines = is.1; so_many = is.2; answers = is.3 }, is.4)
 leased_by (Some e) h log line call (Out lease) kept leases = absurd leases
 leased_by (Some e) h log line call Idle kept leases = absurd leases
