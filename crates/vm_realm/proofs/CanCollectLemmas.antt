@@ -352,7 +352,7 @@ reads w rows h r sound t quiet =
     let response : Response = response_to (id_in x) s told.call told.reply in
     let small : id_in x < 2 ^ 32 = small_id w rows n h sound t.named in
     let fits : Answers c.0.command response = answer_fits (id_of x.handle.session) s told.line told.call c.0 response told.reply slice.handle.range c.1
-        (from.next, id_in x, (from.is_call, refl)) (λ id is. subst (λ k. k < 2 ^ 32) (sym (opened_only (id_in x) s told.call told.reply id is)) small) told.address in
+    (from.next, id_in x, (from.is_call, refl)) (λ id is. subst (λ k. k < 2 ^ 32) (sym (opened_only (id_in x) s told.call told.reply id is)) small) told.address in
     let back : ReadsBack c.0.command response (response_bytes response) = response_again c.0.command response fits in
     record {
       crossing = c.0;
@@ -364,17 +364,21 @@ reads w rows h r sound t quiet =
 
 pub call_can : (w : WorldState) (rows : List (List Inner)) (h : ℕ) (r : Returning) → IsSoundBy w rows → (t : IsHandleTold w rows h r) → Reads (slice_at w r.reply.who h) (inner_at w rows r.reply.who h) r t.told →
     CanAnswer t.told.line (OnHandle h t.told.call) (process_at w.guest r.reply.who) r
-call_can w rows h r sound t reading = (reading.crossing.command, ap command_in reading.crosses, record {
-  enough = reading.enough;
-  may = record {
-    reply = t.told.reply;
-    next = reading.from.next;
-    session = id_in (slice_at w r.reply.who h);
-    is_call = reading.from.is_call;
-    told = reading.read;
-    memories = reading.from.memories;
-  };
-})
+call_can w rows h r sound t reading = (
+  reading.crossing.command,
+  ap command_in reading.crosses,
+  record {
+    enough = reading.enough;
+    may = record {
+      reply = t.told.reply;
+      next = reading.from.next;
+      session = id_in (slice_at w r.reply.who h);
+      is_call = reading.from.is_call;
+      told = reading.read;
+      memories = reading.from.memories;
+    };
+  },
+)
 
 -- ---- what was held back is delivered
 

@@ -639,8 +639,8 @@ resumed_moves w rows session n h call c a sound finds k rest asks does =
     let calls : calls_of v n ≡ [] = nil_from_length (calls_of v n) (omega (arith, fewer, k.calls)) in
     let out : out_of v n ≡ Told r = λ j. out_from (k.requests j) (calls j) (replies j) in
     let others : (i : ℕ) → ¬ (i ≡ n) → out_of v i ≡ out_of w i = λ i apart. λ j. out_from (requests_of w i)
-        (out_off (λ (y : WaitingCall). eqb y.posting.request.who i) (λ (y : WaitingCall). y.session) call.session call w.host.calls finds (ne_eqb m.request.who i (λ same. apart (sym same ∙ k.who))) j)
-        (others_more w.replies n i r k.who apart j) in
+    (out_off (λ (y : WaitingCall). eqb y.posting.request.who i) (λ (y : WaitingCall). y.session) call.session call w.host.calls finds (ne_eqb m.request.who i (λ same. apart (sym same ∙ k.who))) j)
+    (others_more w.replies n i r k.who apart j) in
     let moves = served w rows n h m c a host w.requests rs sound k.named k.posted k.own asks does refl k.on out others in
     let quiet : is_at_rest x.session ≡ true = ap (λ o. is_at_rest (session_in w.host.device o)) k.id ∙ rest in
     record {

@@ -308,9 +308,9 @@ away_few s t (m, log, leads) =
     let listed = listed_log m log s leads in
     let short = queued_short v (λ i. 0) (λ i. (
       (let first = (listed t i).0 in
-      let second = (listed t i).1 in
-      let now = ap (λ (b : Buffer). once (is_queued b.state)) (at i) in
-      omega (arith, first, second, now, queued_sum (buffer_of q i).state, times_both q.queued (indices_of t s.owed) i, indices_times t i s.owed)),
+          let second = (listed t i).1 in
+          let now = ap (λ (b : Buffer). once (is_queued b.state)) (at i) in
+          omega (arith, first, second, now, queued_sum (buffer_of q i).state, times_both q.queued (indices_of t s.owed) i, indices_times t i s.owed)),
       sym (ap (λ (b : Buffer). once (is_with_device b.state)) (at i) ∙ none_with (buffer_of q i).state),
       (listed t i).2 ∙ sym (ap (λ (b : Buffer). once (is_done b.state)) (at i) ∙ done_same (buffer_of q i).state),
     )) in
@@ -386,7 +386,7 @@ finish_left s t reached goes =
     let owed : length (frame_made s).owed ≡ length s.owed + (length (sync_of s) + length (types_of s.model)) =
     length-append s.owed (sync_of s ++ buffers_taken s) ∙ ap (λ n. length s.owed + n) (length-append (sync_of s) (buffers_taken s) ∙ ap (λ n. length (sync_of s) + n) (taken_long s)) in
     let left = frame_left s.model s (frame_made s) (length (sync_of s)) refl refl (many_queues s reached)
-        (heads_queued s true (sync_of s ++ buffers_taken s) (picture_size (target s).format) by.0) owed (sync_few s.model s refl) in
+    (heads_queued s true (sync_of s ++ buffers_taken s) (picture_size (target s).format) by.0) owed (sync_few s.model s refl) in
     subst (λ (x : LocalState). messages_left x ≤ messages_left s) (sym by.1) left
 
 bad_left : (s t : LocalState) → IsReached s → after s Bad ≡ Some t → messages_left t ≤ messages_left s
@@ -395,7 +395,7 @@ bad_left s t reached goes =
     let owed : length (frame_failed s).owed ≡ length s.owed + (0 + length (types_of s.model)) =
     length-append s.owed (buffers_taken s) ∙ ap (λ n. length s.owed + n) (taken_long s ∙ none (length (types_of s.model))) in
     let left = frame_left s.model s (frame_failed s) 0 refl refl (many_queues s reached)
-        (heads_queued s false (buffers_taken s) 0 by.0) owed (one_most s.model) in
+    (heads_queued s false (buffers_taken s) 0 by.0) owed (one_most s.model) in
     subst (λ (x : LocalState). messages_left x ≤ messages_left s) (sym by.1) left
   where
     none : (n : ℕ) → n ≡ 0 + n

@@ -137,8 +137,8 @@ free_none at pages [] some all free = refl
 free_none at pages (r ∷ rs) some all free =
     let parts : _ = and_parts (not (meets at pages r.addr r.pages)) (is_free at pages rs) free in
     let differs : ¬ (r.addr ≡ at) = λ same.
-        let met : meets at pages r.addr r.pages ≡ true = ap (λ a. meets at pages a r.pages) same ∙ meets_itself at pages r.pages some all.0 in
-        false≢true (sym (ap not met) ∙ parts.0) in
+    let met : meets at pages r.addr r.pages ≡ true = ap (λ a. meets at pages a r.pages) same ∙ meets_itself at pages r.pages some all.0 in
+    false≢true (sym (ap not met) ∙ parts.0) in
     cond-false (eqb r.addr at) (Some r) (placed_at at rs) (ne_eqb r.addr at differs) ∙ free_none at pages rs some all.2 parts.1
 
 -- ---- one entry

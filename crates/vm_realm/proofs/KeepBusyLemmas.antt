@@ -131,9 +131,11 @@ next_busy s job reached next =
     has_picture : (m : Model) → has_type m (picture_queue m) ≡ true
     has_picture Capture = refl
     has_picture Convert = refl
+
     has_source : (m : Model) (t : ℕ) → source_queue m ≡ Some t → has_type m t ≡ true
     has_source Capture t is = absurd (none-some t is)
     has_source Convert t is = subst (λ u. has_type Convert u ≡ true) (some_same _ t t is) refl
+
     by_source : (o : Option ℕ) (src : Option Held) → ((t : ℕ) → o ≡ Some t → has_type s.model t ≡ true) → IsHeadIf s o src → All (IsBusyHeld s) (job.dst ∷ []) →
         All (IsBusyHeld s) (option_to_list src ++ job.dst ∷ [])
     by_source None src has is dst = subst (λ o. All (IsBusyHeld s) (option_to_list o ++ job.dst ∷ [])) (sym is) dst

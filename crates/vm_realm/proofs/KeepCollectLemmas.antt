@@ -160,15 +160,19 @@ behind x v line call r reply = record v { executed = None; before = state_of (lo
 led_told : (o : Option SessionState) (x : Slice) (v : Inner) (line : ℕ) (call : Call) (reply : Reply) → x.session ≡ o → IsSoundSlice x v → v.executed ≡ Some (Called line call reply) →
     (is_stopping call ≡ true → is_refusal reply ≡ false → (earlier_of x ≡ []) × (unsent_in x.session ≡ [])) → IsSeated o x v →
     (id : ℕ) × IsLedOn id (driver_state x) line call reply (earlier_of x ++ unsent_in o) v.ahead
-led_told None x v line call reply at sound executed quiet shut =
-    (id_in x, led_on (id_in x) (driver_state x) v.ahead line call reply (earlier_of x ++ []) (is_stopping call) (is_refusal reply) refl refl (log_reached x.handle.log sound.handle.legal)
-    (λ halts done. append_none (earlier_of x) ∙ (quiet halts done).0)
-    (subst (λ es. LeadAhead (id_in x) (driver_state x) (Some (Called line call reply)) es v.ahead) (sym (append_none (earlier_of x)))
-    (subst (λ e. LeadAhead (id_in x) (driver_state x) e (earlier_of x) v.ahead) executed shut.leads)))
-led_told (Some s) x v line call reply at sound executed quiet slice =
-    (s.id, led_on s.id (driver_state x) v.ahead line call reply (earlier_of x ++ s.unsent) (is_stopping call) (is_refusal reply) refl refl (log_reached x.handle.log sound.handle.legal)
-    (λ halts done. (λ j. (quiet halts done).0 j ++ (ap unsent_in (sym at) ∙ (quiet halts done).1) j))
-    (subst (λ e. LeadAhead s.id (driver_state x) e (earlier_of x ++ s.unsent) v.ahead) executed slice.leads))
+led_told None x v line call reply at sound executed quiet shut = (
+  id_in x,
+  led_on (id_in x) (driver_state x) v.ahead line call reply (earlier_of x ++ []) (is_stopping call) (is_refusal reply) refl refl (log_reached x.handle.log sound.handle.legal)
+      (λ halts done. append_none (earlier_of x) ∙ (quiet halts done).0)
+      (subst (λ es. LeadAhead (id_in x) (driver_state x) (Some (Called line call reply)) es v.ahead) (sym (append_none (earlier_of x)))
+      (subst (λ e. LeadAhead (id_in x) (driver_state x) e (earlier_of x) v.ahead) executed shut.leads)),
+)
+led_told (Some s) x v line call reply at sound executed quiet slice = (
+  s.id,
+  led_on s.id (driver_state x) v.ahead line call reply (earlier_of x ++ s.unsent) (is_stopping call) (is_refusal reply) refl refl (log_reached x.handle.log sound.handle.legal)
+      (λ halts done. (λ j. (quiet halts done).0 j ++ (ap unsent_in (sym at) ∙ (quiet halts done).1) j))
+      (subst (λ e. LeadAhead s.id (driver_state x) e (earlier_of x ++ s.unsent) v.ahead) executed slice.leads),
+)
 
 led_for : (o : Option SessionState) (x : Slice) (v : Inner) (line : ℕ) (call : Call) (r : Returning) (reply : Reply) (response : Response) → x.session ≡ o → IsRead x v line call r reply response → IsSeated o x v →
     (id : ℕ) × IsLedOn id (driver_state x) line call reply (earlier_of x ++ unsent_in o) v.ahead
@@ -360,8 +364,10 @@ still_on x v line call r reply response halts refused is_halting refuses is =
   where
     y : Slice
     y = logged x line call r reply response
+
     last : stopped_last y ≡ stopped_by (state_of (logged_log x line call r reply)) (Some (Called line call reply))
     last = ap (stopped_by (state_of (logged_log x line call r reply))) (last_behind None x.handle.log.entries line call reply)
+
     by_case : (halts refused : Bool) → is_stopping call ≡ halts → is_refusal reply ≡ refused → IsStill y
     by_case false refused never refuses = still_free y (last ∙ (ap (λ ts. if is_refusal reply then [] else ts) (stops_none (state_of (logged_log x line call r reply)) call never) ∙ none_either (is_refusal reply)))
     by_case true true halts refuses = still_free y (last ∙ ap (λ b. if b then [] else stops (state_of (logged_log x line call r reply)) call) refuses)
@@ -399,8 +405,10 @@ logged_sound x v line call r reply response is =
   where
     apart : (l : ℕ) (c : Call) → AtRest ≡ Underway l c → ⊥
     apart l c at = cc
+
     no_request : (m : Posting) → Nowhere ≡ Asked m → ⊥
     no_request m at = cc
+
     no_reply : (m : Returning) → Nowhere ≡ Told m → ⊥
     no_reply m at = cc
 
@@ -432,6 +440,7 @@ line_same l m c d is = (line_of is, call_of is)
   where
     line_of : Underway l c ≡ Underway m d → l ≡ m
     line_of is = cc
+
     call_of : Underway l c ≡ Underway m d → c ≡ d
     call_of is = cc
 

@@ -264,9 +264,11 @@ events_held P s r done src dst =
     sync : (b : Bool) → All P (filter_map (λ (e : Unsent). e.held) (if b then record { msg = Happened s.id (frame_event (pictures s).sequence (frame_time (pictures s).sequence)); held = None } ∷ [] else []))
     sync true = All-nil P
     sync false = All-nil P
+
     one : (o : Option Held) → ((h : Held) → o ≡ Some h → P h) → All P (cons_option o [])
     one None from = All-nil P
     one (Some h) from = All-cons P h [] (from h refl) (All-nil P)
+
     source : (o : Option BufferRec) → All P (filter_map (λ (e : Unsent). e.held) (option_to_list (option_map (λ b. returned s r done.good b b.bytesused done.job.src) o)))
     source None = All-nil P
     source (Some b) = one done.job.src src
@@ -342,9 +344,11 @@ done_sound x v s r job done b t sound is has back reached ready by =
     source_of None dst all h at = absurd (none-some h at)
     source_of (Some k) dst all h at =
         subst (λ (z : Held). IsUsers t (memory_at t z.queue z.index) z.mem) (some_same k h h at) (All-head (λ (z : Held). IsUsers t (memory_at t z.queue z.index) z.mem) k (dst ∷ []) all)
+
     last_of : (src : Option Held) (dst : Held) → AreUsers t (option_to_list src ++ dst ∷ []) → IsUsers t (memory_at t dst.queue dst.index) dst.mem
     last_of None dst all = All-head (λ (z : Held). IsUsers t (memory_at t z.queue z.index) z.mem) dst [] all
     last_of (Some k) dst all = All-head (λ (z : Held). IsUsers t (memory_at t z.queue z.index) z.mem) dst [] (All-tail (λ (z : Held). IsUsers t (memory_at t z.queue z.index) z.mem) k (dst ∷ []) all)
+
     dest_of : (t : LocalState) (src : Option Held) (dst new : Held) → AreUsers t (option_to_list src ++ dst ∷ []) → new.queue ≡ dst.queue → new.index ≡ dst.index → mem_rest new.mem ≡ mem_rest dst.mem →
         IsUsers t (memory_at t new.queue new.index) new.mem
     dest_of t src dst new all queue index rest = subst (λ n. IsUsers t n new.mem) (λ j. memory_at t (sym queue j) (sym index j))
@@ -358,11 +362,14 @@ done_sound x v s r job done b t sound is has back reached ready by =
 out_done : (x : Slice) (v : Inner) (o : Out) (f : SessionState) (t : LocalState) → StopsNone v.executed → x.out ≡ o → IsOut o x v → IsOut o (done_slice x f) (record v { ahead = t })
 out_done x v Nowhere f t none at out = (record { executed = out.0.executed; before = out.0.before }, out.1)
 out_done x v (Asked m) f t none at out = (record { executed = out.0.executed; before = out.0.before }, posted_moved x x.held x.events (Some f) None m out.1)
-out_done x v (Kept m) f t none at out = (record { executed = out.0.executed; before = out.0.before }, record {
-  posted = posted_moved x x.held x.events (Some f) None m out.1.posted;
-  stops = out.1.stops;
-  live = refl;
-})
+out_done x v (Kept m) f t none at out = (
+  record { executed = out.0.executed; before = out.0.before },
+  record {
+    posted = posted_moved x x.held x.events (Some f) None m out.1.posted;
+    stops = out.1.stops;
+    live = refl;
+  },
+)
 out_done x v (Told r) f t none at out =
     let never : is_stopping out.call ≡ false = subst StopsNone out.executed none in
     record {
@@ -398,6 +405,7 @@ half_none x v id es o reached none out leads u is = by_out o out
   where
     plain : v.executed ≡ None → IsHalf v.ahead u
     plain at = half_lead id (driver_state x) v.ahead es u reached (subst (λ e. LeadAhead id (driver_state x) e es v.ahead) at leads) (half_of (driver_state x) u is)
+
     by_out : (o : Out) → IsOut o x v → IsHalf v.ahead u
     by_out Nowhere out = plain out.0.executed
     by_out (Asked m) out = plain out.0.executed

@@ -207,6 +207,7 @@ sent_qbuf x v t i used ts user c (Some number) (Some held) log sound none words 
   where
     not_lent : (entry : LeaseOut) → lease_in (Sent number) ≡ Some entry → ⊥
     not_lent entry there = none-some entry there
+
     sent_same : (number n : ℕ) → Sent number ≡ Sent n → number ≡ n
     sent_same number n at = cc
 
@@ -255,6 +256,7 @@ crosses_sound x v line call c along handle sound may words first crosses goes wh
   where
     asked_same : (m k : Posting) → Asked m ≡ Asked k → m ≡ k
     asked_same m k is = cc
+
     not_told : (m : Posting) (r : Returning) → Asked m ≡ Told r → ⊥
     not_told m r is = cc
 
@@ -282,8 +284,10 @@ waits_sound x v line call sound may whole =
   where
     apart : (l : ℕ) (c : Call) → Waiting line call ≡ Underway l c → ⊥
     apart l c at = cc
+
     no_request : (m : Posting) → Nowhere ≡ Asked m → ⊥
     no_request m is = cc
+
     no_reply : (r : Returning) → Nowhere ≡ Told r → ⊥
     no_reply r is = cc
 
@@ -352,6 +356,7 @@ kind_line l off k o is = (line_of is, off_of is)
   where
     line_of : User l off ≡ User k o → l ≡ k
     line_of is = cc
+
     off_of : User l off ≡ User k o → off ≡ o
     off_of is = cc
 
@@ -397,6 +402,7 @@ one_made x v held free one = by_session x.session refl free.seated one
     made id es held leads busy =
         All-weaker (IsBusyHeld v.ahead) (λ (h : Held). memory_at (driver_state x) h.queue h.index < length (driver_state x).memories)
         (λ h is. busy_made (driver_state x) h free.reached (sym (lead_idle id (driver_state x) v.ahead es h.queue h.index free.reached leads) ∙ is)) held busy
+
     by_session : (o : Option SessionState) → x.session ≡ o → IsSeated o x v → IsOneOf x held → All (λ (h : Held). memory_at (driver_state x) h.queue h.index < length (driver_state x).memories) held
     by_session None at shut one =
         let leads : LeadAll (id_in x) (driver_state x) (earlier_of x) v.ahead = subst (λ e. LeadAhead (id_in x) (driver_state x) e (earlier_of x) v.ahead) free.none shut.leads in

@@ -180,8 +180,10 @@ unlogged_sound x v log sound at rest entries model home lent whole =
         other : Told r ≡ Nowhere → ⊥
         other at = cc
     before_of Astray at out = absurd out
+
     apart : (line : ℕ) (call : Call) → AtRest ≡ Underway line call → ⊥
     apart line call is = cc
+
     no_request : (m : Posting) → Nowhere ≡ Asked m → ⊥
     no_request m is = cc
 
@@ -291,6 +293,7 @@ rests_nowhere x v o rest out = by_out o out
       where
         not_both : AtRest ≡ Underway l c → ⊥
         not_both is = cc
+
     by_out : (o : Out) → IsOut o x v → o ≡ Nowhere
     by_out Nowhere out = refl
     by_out (Asked m) out = absurd (apart out.1.line out.1.call out.1.underway)

@@ -424,8 +424,10 @@ done_close x v m d line s c =
     apart k is = cc
 
 closes_sound : (x x' : Slice) (v : Inner) (m : Posting) (d : DeviceState) (line : ℕ) (s : SessionState) → IsClosed x v m d line s → s.id < length d.sessions →
-    x' ≡ record x { out = Told (told_by m (closed_session d s.id m.held (Some s)));
-      session = session_in (closed_session d s.id m.held (Some s)).device (id_ahead x.handle (Told (told_by m (closed_session d s.id m.held (Some s))))) } → GoesOnSoundly x' v
+    x' ≡ record x {
+      out = Told (told_by m (closed_session d s.id m.held (Some s)));
+      session = session_in (closed_session d s.id m.held (Some s)).device (id_ahead x.handle (Told (told_by m (closed_session d s.id m.held (Some s)))));
+    } → GoesOnSoundly x' v
 closes_sound x x' v m d line s c within after =
     let reply : Returning = told_by m (closed_session d s.id m.held (Some s)) in
     let id : id_ahead x.handle (Told reply) ≡ Some s.id = told_id x line CloseHandle reply c.under ∙ c.id in

@@ -105,8 +105,10 @@ told_moved x v held events session job r is told =
       where
         some_entry : {e d : Entry} → Some e ≡ Some d → e ≡ d
         some_entry same = cc
+
         call_same : Called told.line told.call told.reply ≡ Called line call reply → told.call ≡ call
         call_same same = cc
+
         reply_same : Called told.line told.call told.reply ≡ Called line call reply → told.reply ≡ reply
         reply_same same = cc
 

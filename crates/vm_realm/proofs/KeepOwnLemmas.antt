@@ -82,23 +82,28 @@ ahead_at v u t = record v { executed = None; before = u; ahead = t }
 
 -- the messages lead from the driver's state to the state ahead
 pub leads_of : (o : Option SessionState) (x : Slice) (v : Inner) → v.executed ≡ None → IsSeated o x v → (id : ℕ) × LeadAll id (driver_state x) (earlier_of x ++ unsent_in o) v.ahead
-leads_of None x v none seated =
-    (id_in x, subst (λ es. LeadAll (id_in x) (driver_state x) es v.ahead) (sym (append_none (earlier_of x)))
-    (subst (λ e. LeadAhead (id_in x) (driver_state x) e (earlier_of x) v.ahead) none seated.leads))
+leads_of None x v none seated = (
+  id_in x,
+  subst (λ es. LeadAll (id_in x) (driver_state x) es v.ahead) (sym (append_none (earlier_of x)))
+      (subst (λ e. LeadAhead (id_in x) (driver_state x) e (earlier_of x) v.ahead) none seated.leads),
+)
 leads_of (Some s) x v none seated = (s.id, subst (λ e. LeadAhead s.id (driver_state x) e (earlier_of x ++ s.unsent) v.ahead) none seated.leads)
 
 -- where no session is live
 shut_own : (x : Slice) (v : Inner) (h : HandleState) (line : ℕ) (call : Call) (reply : Reply) → IsReached (driver_state x) → v.executed ≡ None → x.out ≡ Nowhere →
     IsLogged x h line call reply → (may_cross call ≡ false) ⊎ (state_of h.log ≡ driver_state x) → IsShut x v → (t : LocalState) × IsShut (logged x h) (ahead_at v (state_of h.log) t)
-shut_own x v h line call reply reached none nowhere is (inr same) shut = (v.ahead, record {
-  reached = subst IsReached (sym same) reached;
-  leads = subst (λ n. LeadAll n (state_of h.log) (earlier_of x) v.ahead) (sym (ap id_of is.session ∙ sym (ap (λ o. id_of (id_ahead x.handle o)) nowhere)))
-      (subst (λ r. LeadAll (id_in x) r (earlier_of x) v.ahead) (sym same) (subst (λ e. LeadAhead (id_in x) (driver_state x) e (earlier_of x) v.ahead) none shut.leads));
-  shut = shut.shut;
-  owed = shut.owed;
-  none_runs = shut.none_runs;
-  unmade = λ unnamed. shut.unmade (ap (id_ahead x.handle) nowhere ∙ (sym is.session ∙ unnamed));
-})
+shut_own x v h line call reply reached none nowhere is (inr same) shut = (
+  v.ahead,
+  record {
+    reached = subst IsReached (sym same) reached;
+    leads = subst (λ n. LeadAll n (state_of h.log) (earlier_of x) v.ahead) (sym (ap id_of is.session ∙ sym (ap (λ o. id_of (id_ahead x.handle o)) nowhere)))
+        (subst (λ r. LeadAll (id_in x) r (earlier_of x) v.ahead) (sym same) (subst (λ e. LeadAhead (id_in x) (driver_state x) e (earlier_of x) v.ahead) none shut.leads));
+    shut = shut.shut;
+    owed = shut.owed;
+    none_runs = shut.none_runs;
+    unmade = λ unnamed. shut.unmade (ap (id_ahead x.handle) nowhere ∙ (sym is.session ∙ unnamed));
+  },
+)
 shut_own x v h line call reply reached none nowhere is (inl own) shut =
     let u : LocalState = state_of h.log in
     let leads : LeadAll (id_in x) (driver_state x) (earlier_of x) v.ahead = subst (λ e. LeadAhead (id_in x) (driver_state x) e (earlier_of x) v.ahead) none shut.leads in
@@ -122,9 +127,11 @@ slice_own : (x : Slice) (v : Inner) (h : HandleState) (line : ℕ) (call : Call)
 slice_own x v h line call reply s none is (inl own) slice =
     slice_has_own_calls v.frames s x.job (earlier_of x) line call reply (driver_state x) v.ahead (state_of h.log)
     (subst (λ e. IsSlice v.frames s x.job (earlier_of x) e (driver_state x) v.ahead) none slice) own is.is_call
-slice_own x v h line call reply s none is (inr same) slice =
-    (v.ahead, subst (λ r. IsSlice v.frames s x.job (earlier_of x) None r v.ahead) (sym same)
-    (subst (λ e. IsSlice v.frames s x.job (earlier_of x) e (driver_state x) v.ahead) none slice))
+slice_own x v h line call reply s none is (inr same) slice = (
+  v.ahead,
+  subst (λ r. IsSlice v.frames s x.job (earlier_of x) None r v.ahead) (sym same)
+      (subst (λ e. IsSlice v.frames s x.job (earlier_of x) e (driver_state x) v.ahead) none slice),
+)
 
 seated_own : (o : Option SessionState) (x : Slice) (v : Inner) (h : HandleState) (line : ℕ) (call : Call) (reply : Reply) → IsReached (driver_state x) → v.executed ≡ None → x.out ≡ Nowhere →
     IsLogged x h line call reply → (may_cross call ≡ false) ⊎ (state_of h.log ≡ driver_state x) → IsSeated o x v →
@@ -207,5 +214,6 @@ own_sound x v h line call reply free is how quiet carry sound keeps =
   where
     no_request : (m : Posting) → Nowhere ≡ Asked m → ⊥
     no_request m at = cc
+
     no_reply : (told : Returning) → Nowhere ≡ Told told → ⊥
     no_reply told at = cc

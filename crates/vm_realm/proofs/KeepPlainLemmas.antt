@@ -124,24 +124,29 @@ row_same s GFmtCode p plain = (same_itself s, refl)
 row_same s TryFmtCode p plain = (same_itself s, refl)
 row_same s SFmtCode p plain =
     let t : ℕ = number_at 0 p in
-    let f : _ = adjusted_for s t (code_at 16 p) (number_at 8 p) (number_at 12 p) in
-    (record {
-      id = refl;
-      running = refl;
-      unsent = refl;
-      queued = flat_same (λ (q : SessionQueue). memories q.queued) opening_queue s.queues (with_set_format_at queue_kind s.model s.queues t f) (set_long queue_kind s.model s.queues t f)
-          (λ k. formatted_keeps queue_kind (λ (q : SessionQueue). memories q.queued) (λ q g. refl) s.model s.queues t f k);
-    }, refl)
+    let f : _ = adjusted_for s t (code_at 16 p) (number_at 8 p) (number_at 12 p) in (
+      record {
+        id = refl;
+        running = refl;
+        unsent = refl;
+        queued = flat_same (λ (q : SessionQueue). memories q.queued) opening_queue s.queues (with_set_format_at queue_kind s.model s.queues t f) (set_long queue_kind s.model s.queues t f)
+            (λ k. formatted_keeps queue_kind (λ (q : SessionQueue). memories q.queued) (λ q g. refl) s.model s.queues t f k);
+      },
+      refl,
+    )
 row_same s EnumInputCode p plain = (same_itself s, refl)
 row_same s GInputCode p plain = (same_itself s, refl)
 row_same s SInputCode p plain = (record { id = refl; running = refl; unsent = refl; queued = refl }, refl)
 row_same s QueryBufCode p plain = (same_itself s, refl)
-row_same s StreamOnCode p plain = (record {
-  id = refl;
-  running = refl;
-  unsent = refl;
-  queued = flat_set (λ (q : SessionQueue). memories q.queued) s.queues (place_in (types_of s.model) (number_at 0 p)) opening_queue (started (queue_of s (number_at 0 p))) refl;
-}, refl)
+row_same s StreamOnCode p plain = (
+  record {
+    id = refl;
+    running = refl;
+    unsent = refl;
+    queued = flat_set (λ (q : SessionQueue). memories q.queued) s.queues (place_in (types_of s.model) (number_at 0 p)) opening_queue (started (queue_of s (number_at 0 p))) refl;
+  },
+  refl,
+)
 row_same s code p plain = absurd (false≢true plain)
 
 ok_same : {A B : Type 0} (a b : A) → ◌≡◌ {A = Result A B} (Ok a) (Ok b) → a ≡ b

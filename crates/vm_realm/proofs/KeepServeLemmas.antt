@@ -175,22 +175,25 @@ waiting_keeps x v m c d sound at asks is waits =
     on_soundly (record x { out = Kept m }) v v refl (record {
       log = sound.log;
       handle = sound.handle;
-      out = (record { executed = out.0.executed; before = out.0.before }, record {
-        posted = record {
-          line = posted.line;
-          call = posted.call;
-          crossing = posted.crossing;
-          along = posted.along;
-          underway = posted.underway;
-          crosses = posted.crosses;
-          words = posted.words;
-          first = posted.first;
-          says = posted.says;
-          memory = posted.memory;
-        };
-        stops = stop.0;
-        live = live;
-      });
+      out = (
+        record { executed = out.0.executed; before = out.0.before },
+        record {
+          posted = record {
+            line = posted.line;
+            call = posted.call;
+            crossing = posted.crossing;
+            along = posted.along;
+            underway = posted.underway;
+            crosses = posted.crosses;
+            words = posted.words;
+            first = posted.first;
+            says = posted.says;
+            memory = posted.memory;
+          };
+          stops = stop.0;
+          live = live;
+        },
+      );
       seated = seated_waits x.session x v m at sound.seated;
       named = subst (λ o. IfSome x.session (λ s. id_ahead x.handle o ≡ Some s.id)) at sound.named;
       runs = sound.runs;
@@ -209,6 +212,7 @@ waiting_keeps x v m c d sound at asks is waits =
   where
     not_asked : (m k : Posting) → Kept m ≡ Asked k → ⊥
     not_asked m k is = cc
+
     not_told : (m : Posting) (r : Returning) → Kept m ≡ Told r → ⊥
     not_told m r is = cc
 
@@ -249,5 +253,6 @@ done_sound x v w r session sound is = record {
   where
     not_asked : (r : Returning) (k : Posting) → Told r ≡ Asked k → ⊥
     not_asked r k is = cc
+
     told_same : (r q : Returning) → Told r ≡ Told q → r ≡ q
     told_same r q is = cc

@@ -112,8 +112,7 @@ half_step s s' (Called line call reply) t step reached leads is = absurd (false�
 half_step s s' Finish t step reached leads is = absurd (half_unready s t reached is (finished_by s s' leads).0)
 half_step s s' Bad t step reached leads is = absurd (half_unready s t reached is (failed_by s s' leads).0)
 half_step s s' Give t step reached leads is =
-    let parts : _ = give_parts s s' t reached leads in
-    (
+    let parts : _ = give_parts s s' t reached leads in (
       type_kept s s' t (step_alike s s' Give refl reached leads).model is.0,
       elim is.1 as (λ _. ((queue_of s' t).streaming ≡ false) ⊎ ((queue_of s' t).queued ≡ [])) [
         | inl stands ↦ inl (parts.0 ∙ stands)
@@ -145,6 +144,7 @@ closed_all s m is = all_types m (λ t has. (ap (λ x. has_type x t) is ∙ has, 
   where
     at : (t : ℕ) → queue_of (closed s) t ≡ stopped_queue (queue_of s t)
     at t = get_or-map stopped_queue s.queues (place_in (types_of s.model) t) opening_queue
+
     all_types : (m : Model) → ((t : ℕ) → has_type m t ≡ true → HasStopped (closed s) t) → All (HasStopped (closed s)) (types_of m)
     all_types Capture f = All-cons (HasStopped (closed s)) BUF_TYPE_CAPTURE [] (f BUF_TYPE_CAPTURE refl) (All-nil (HasStopped (closed s)))
     all_types Convert f = All-cons (HasStopped (closed s)) BUF_TYPE_OUTPUT (BUF_TYPE_CAPTURE ∷ []) (f BUF_TYPE_OUTPUT refl)

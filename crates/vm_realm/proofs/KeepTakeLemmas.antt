@@ -352,7 +352,7 @@ told_leads x v o (inl (none, other)) seated =
 told_leads x v o (inr (r, at, told, halts)) seated = (
   id_in x,
   subst (LeadAll (id_in x) (driver_state x) (under_way x)) (sym (told_before v (Called told.line told.call told.reply) told.executed halts))
-  (subst (λ b. IsBefore b x v.before) halts told.before),
+      (subst (λ b. IsBefore b x v.before) halts told.before),
 )
 
 -- the slice once the message is logged, where no call that waits is answered by it
@@ -509,11 +509,14 @@ out_then x v d ds (Asked m) is out =
     not_told : (r : Returning) → Asked m ≡ Told r → ⊥
     not_told r at = cc
 out_then x v d ds (Kept m) is out =
-    out_none x v d ds (Kept m) out.0.executed (λ r at. not_told r at) (record { executed = out.0.executed; before = refl }, record {
-      posted = posted_told x v d ds m is out.1.posted;
-      stops = stops_at x.handle.stage out.1.posted.line out.1.posted.call out.1.posted.underway is.free;
-      live = out.1.live;
-    })
+    out_none x v d ds (Kept m) out.0.executed (λ r at. not_told r at) (
+      record { executed = out.0.executed; before = refl },
+      record {
+        posted = posted_told x v d ds m is out.1.posted;
+        stops = stops_at x.handle.stage out.1.posted.line out.1.posted.call out.1.posted.underway is.free;
+        live = out.1.live;
+      },
+    )
   where
     not_told : (r : Returning) → Kept m ≡ Told r → ⊥
     not_told r at = cc
@@ -673,6 +676,7 @@ waits_nowhere x v o line call waits out = by_out o out
       where
         not_both : Waiting line call ≡ Underway l c → ⊥
         not_both is = cc
+
     by_out : (o : Out) → IsOut o x v → (o ≡ Nowhere) × (v.executed ≡ None)
     by_out Nowhere out = (refl, out.0.executed)
     by_out (Asked m) out = absurd (apart out.1.line out.1.call out.1.underway)

@@ -105,13 +105,16 @@ unmap_reply s line addr name = refl
 
 unmap_leaves : (line : ℕ) (name : List ℕ) (a b : LocalState) (reply : Reply) → IsCall a line (Munmap name) reply b → ((u i : ℕ) → memory_at b u i ≡ memory_at a u i) × (address_in reply ≡ 0)
 unfolding called
-unmap_leaves line name a b reply leads = (λ u i. elim (answered_by (first_refusal (row_for a line (Munmap name) reply).refusals) (row_for a line (Munmap name) reply) a reply b leads) as (λ _. memory_at b u i ≡ memory_at a u i) [
-  | inl same ↦ ap (λ z. memory_at z u i) same
-  | inr w ↦ ap (λ z. memory_at z u i) w.3 ∙ unmap_next a line (address_in reply) name u i
-], elim (outcome a line (Munmap name) reply b leads) as (λ _. address_in reply ≡ 0) [
-  | inl refused ↦ ap address_in refused.1
-  | inr told ↦ ap address_in told.1 ∙ unmap_reply a line (address_in reply) name
-])
+unmap_leaves line name a b reply leads = (
+  λ u i. elim (answered_by (first_refusal (row_for a line (Munmap name) reply).refusals) (row_for a line (Munmap name) reply) a reply b leads) as (λ _. memory_at b u i ≡ memory_at a u i) [
+    | inl same ↦ ap (λ z. memory_at z u i) same
+    | inr w ↦ ap (λ z. memory_at z u i) w.3 ∙ unmap_next a line (address_in reply) name u i
+  ],
+  elim (outcome a line (Munmap name) reply b leads) as (λ _. address_in reply ≡ 0) [
+    | inl refused ↦ ap address_in refused.1
+    | inr told ↦ ap address_in told.1 ∙ unmap_reply a line (address_in reply) name
+  ],
+)
 
 -- ---- the mapping
 
@@ -129,6 +132,7 @@ mapped x name d device maps = by_name (named (driver_state x) name) refl maps
       lives = subst (λ n. IsSome (range_at n d.region.ranges)) (sym (ap address_of at ∙ ap (λ k. address_of (Some (record b { kind = k }))) kind)) (device.ranges b addr len writable there kind);
     }
     by_kind b (User line off) kind there at maps = absurd (false≢true (sym (ap (λ k. is_mapping (Some (record b { kind = k }))) kind) ∙ maps))
+
     by_name : (o : Option Bound) → named (driver_state x) name ≡ o → is_mapping o ≡ true → IsMapped (driver_state x) name d
     by_name None at maps = absurd (false≢true maps)
     by_name (Some b) at maps =

@@ -327,44 +327,46 @@ raw_before w n k q s chain driver t at what before = by_answered t.answered
 pump_world : (w : WorldState) (rows : List (List Inner)) (d : Delivery) (ds : List Delivery) (g : GuestState) → IsSoundBy w rows → w.events ≡ d ∷ ds → MovesOne Pump w (took w g ds) → IsDriver w.script g → g.seats ≡ w.guest.seats →
     g.pump.room ≡ w.guest.pump.room → length g.processes ≡ length w.guest.processes → All (λ (e : Delivery). IsSome (seat_of w.guest e.session)) g.pump.held → ((m : ℕ) → ToldProcess (process_at w.guest m) (process_at g m)) →
     left_of (took w g ds) < left_of w → IsSound (took w g ds)
-pump_world w rows d ds g sound is moves driver seats room count held told_all falls =
-    (rows_with w u rows n h t.inner, record {
-      script = sound.script;
-      lines = driver;
-      slices = slices_lift w u rows n h t.inner sound.slices stay moves.others t.sound;
-      ids = record {
-        below = λ m k id named own. sound.ids.below m k id (stay m k named) (sym (ids m k) ∙ own);
-        there = λ id within. (let at : _ = sound.ids.there id within in (at.0, at.1, back at.0 at.1 at.2, ids at.0 at.1 ∙ at.3));
-        once = λ m k i j id first second own other. sound.ids.once m k i j id (stay m k first) (stay i j second) (sym (ids m k) ∙ own) (sym (ids i j) ∙ other);
-        seats = λ m k id named own. ap (λ ss. get_or ss id None) seats ∙ sound.ids.seats m k id (stay m k named) (sym (sessions m k) ∙ own);
-        seated = λ id seat at. sessions seat.process seat.handle ∙ sound.ids.seated id seat (sym (ap (λ ss. get_or ss id None) seats) ∙ at);
-        places = ap length seats ∙ sound.ids.places;
-      };
-      device = sound.device;
-      mapped = journal_later (all_shares w rows 0 w.guest.processes) (all_shares u (rows_with w u rows n h t.inner) 0 g.processes) w.host.device.region
-          (shares_lift w u rows n h t.inner sound.lines driver refl moves.others (λ named. t.later)) sound.mapped;
-      said = record {
-        sent = seats_all ds (All-tail (λ (e : Delivery). IsSome (seat_of w.guest e.session)) d ds (subst (All (λ (e : Delivery). IsSome (seat_of w.guest e.session))) is sound.said.sent));
-        held = seats_all g.pump.held held;
-        rising = sound.said.rising;
-        waiting = λ k e within. (let at : _ = sound.said.waiting k e within in (at.0, at.1, back at.0 at.1 at.2, outs at.0 at.1 ∙ at.3, ids at.0 at.1 ∙ at.4));
-      };
-      raws = record {
-        answered = λ m k s chain at what before. (
-            ap (λ rs. get_or rs k None) (told_all m).raws
-            ∙ sound.raws.answered m k s chain (ap (λ ss. slice_get ss k) (sym (told_all m).statements) ∙ at) what (raw_before w m k (process_at g m) s chain sound.lines (told_all m) at what before));
-        out = λ m. subst (IsLineOut w m) (sym (told_all m).under_way) (sound.raws.out m);
-      };
-      quiet = record {
-        one = λ m. sound.quiet.one m ∙ ap one_if (sym (told_all m).crosses);
-        chains = (let all = sound.quiet.chains in let long = ap length is in omega (arith, all, long));
-        room = room ∙ (sound.quiet.room ∙ ap (λ k. handle_room * k) (sym count));
-      };
-      within = record {
-        jobs = (let jobs = sound.within.jobs in omega (arith, jobs, falls));
-        frames = λ id. made_within (session_of w.host.device id) (sound.within.frames id);
-      };
-    })
+pump_world w rows d ds g sound is moves driver seats room count held told_all falls = (
+  rows_with w u rows n h t.inner,
+  record {
+    script = sound.script;
+    lines = driver;
+    slices = slices_lift w u rows n h t.inner sound.slices stay moves.others t.sound;
+    ids = record {
+      below = λ m k id named own. sound.ids.below m k id (stay m k named) (sym (ids m k) ∙ own);
+      there = λ id within. (let at : _ = sound.ids.there id within in (at.0, at.1, back at.0 at.1 at.2, ids at.0 at.1 ∙ at.3));
+      once = λ m k i j id first second own other. sound.ids.once m k i j id (stay m k first) (stay i j second) (sym (ids m k) ∙ own) (sym (ids i j) ∙ other);
+      seats = λ m k id named own. ap (λ ss. get_or ss id None) seats ∙ sound.ids.seats m k id (stay m k named) (sym (sessions m k) ∙ own);
+      seated = λ id seat at. sessions seat.process seat.handle ∙ sound.ids.seated id seat (sym (ap (λ ss. get_or ss id None) seats) ∙ at);
+      places = ap length seats ∙ sound.ids.places;
+    };
+    device = sound.device;
+    mapped = journal_later (all_shares w rows 0 w.guest.processes) (all_shares u (rows_with w u rows n h t.inner) 0 g.processes) w.host.device.region
+        (shares_lift w u rows n h t.inner sound.lines driver refl moves.others (λ named. t.later)) sound.mapped;
+    said = record {
+      sent = seats_all ds (All-tail (λ (e : Delivery). IsSome (seat_of w.guest e.session)) d ds (subst (All (λ (e : Delivery). IsSome (seat_of w.guest e.session))) is sound.said.sent));
+      held = seats_all g.pump.held held;
+      rising = sound.said.rising;
+      waiting = λ k e within. (let at : _ = sound.said.waiting k e within in (at.0, at.1, back at.0 at.1 at.2, outs at.0 at.1 ∙ at.3, ids at.0 at.1 ∙ at.4));
+    };
+    raws = record {
+      answered = λ m k s chain at what before. (
+          ap (λ rs. get_or rs k None) (told_all m).raws
+          ∙ sound.raws.answered m k s chain (ap (λ ss. slice_get ss k) (sym (told_all m).statements) ∙ at) what (raw_before w m k (process_at g m) s chain sound.lines (told_all m) at what before));
+      out = λ m. subst (IsLineOut w m) (sym (told_all m).under_way) (sound.raws.out m);
+    };
+    quiet = record {
+      one = λ m. sound.quiet.one m ∙ ap one_if (sym (told_all m).crosses);
+      chains = (let all = sound.quiet.chains in let long = ap length is in omega (arith, all, long));
+      room = room ∙ (sound.quiet.room ∙ ap (λ k. handle_room * k) (sym count));
+    };
+    within = record {
+      jobs = (let jobs = sound.within.jobs in omega (arith, jobs, falls));
+      frames = λ id. made_within (session_of w.host.device id) (sound.within.frames id);
+    };
+  },
+)
   where
     u : WorldState
     u = took w g ds

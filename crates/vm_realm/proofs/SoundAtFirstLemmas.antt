@@ -235,15 +235,18 @@ module _ (script : ScriptLines) (w : WorldState) (run : IsRunnable script) (firs
   }
 
   pub sound_at_first : IsSound w
-  sound_at_first = ([], record {
-    script = subst IsRunnable (sym first.is) run;
-    lines = subst (λ s. IsDriver s w.guest) (sym first.is) (fresh_driver script w.guest run.fit first.guest);
-    slices = slice_sound;
-    ids = ids_agree;
-    device = subst (λ s. IsDeviceFor s w.host.device) (sym first.is) device_sound;
-    mapped = journal_first;
-    said = is_said;
-    raws = raws_answered;
-    quiet = quiet_first;
-    within = within_first;
-  })
+  sound_at_first = (
+    [],
+    record {
+      script = subst IsRunnable (sym first.is) run;
+      lines = subst (λ s. IsDriver s w.guest) (sym first.is) (fresh_driver script w.guest run.fit first.guest);
+      slices = slice_sound;
+      ids = ids_agree;
+      device = subst (λ s. IsDeviceFor s w.host.device) (sym first.is) device_sound;
+      mapped = journal_first;
+      said = is_said;
+      raws = raws_answered;
+      quiet = quiet_first;
+      within = within_first;
+    },
+  )
