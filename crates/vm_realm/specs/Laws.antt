@@ -1,17 +1,11 @@
 -- The laws of the world: what each of its steps keeps, lowers and moves.
-use Rattle.std.specs.Prelude.{ℕ, ◌≡◌, ◌≤◌, ◌<◌, ◌+◌, ◌*◌, ◌⊎◌, ◌↔◌, Bool, true, false, not, nat_lt, List, [], ◌∷◌, ◌++◌, Contains, length, Some, Ok, IfSome}
+use Rattle.std.specs.Prelude.{ℕ, ◌≡◌, ◌≤◌, ◌<◌, ◌+◌, ◌*◌, ◌⊎◌, ◌↔◌, Bool, true, false, not, nat_lt, List, ◌∷◌, ◌++◌, Contains, length, Some, Ok, IfSome}
 use Rattle.std.specs.List.{list_any}
-use Rattle.vm_home.specs.Moves.{is_stopping}
-use Rattle.vm_job.specs.Job.{DoneParts}
 use Rattle.vm_local.specs.declared.call.Call.{Call}
-use Rattle.vm_local.specs.declared.call.Call.TheVariants.{CloseHandle, QueryCap, EnumFmt, GFmt, TryFmt, SFmt, EnumInput, GInput, SInput, QueryBuf, StreamOn, QBuf, UAlloc, Munmap, ReqBufs}
+use Rattle.vm_local.specs.declared.call.Call.TheVariants.{CloseHandle, QueryCap, EnumFmt, GFmt, TryFmt, SFmt, EnumInput, GInput, SInput, QueryBuf, StreamOn, Munmap}
 use Rattle.vm_local.specs.declared.entry.Entry.{Entry}
-use Rattle.vm_local.specs.declared.entry.Entry.TheVariants.{Called}
-use Rattle.vm_local.specs.declared.reply.Reply.{Reply}
-use Rattle.vm_local.specs.Live.{is_of_device}
 use Rattle.vm_script.specs.Script.{ScriptLines}
 use Rattle.vm_script.specs.declared.line.LineKind.{LineKind}
-use Rattle.vm_script.specs.declared.line.LineKind.TheVariants.{OnHandle, Raw}
 use Rattle.vm_wire.specs.Message.Ask.{Judged}
 use Rattle.vm_wire.specs.declared.command.Command.{Command}
 use Rattle.vm_device.specs.Device.{DeviceState}
@@ -22,21 +16,20 @@ use Rattle.vm_guest.specs.Events.{all_taken, CanTakeAll, CanSettle}
 use Rattle.vm_guest.specs.Guest.{GuestState, process_at, with_process}
 use Rattle.vm_guest.specs.Lines.{CanAnswer, AnsweredFor}
 use Rattle.vm_wire.specs.Message.{Posting, Returning}
-use Rattle.vm_guest.specs.Process.{ProcessState, begun, issuing, crossing, handle_at}
+use Rattle.vm_guest.specs.Process.{ProcessState, begun, crossing, handle_at}
 use Rattle.vm_guest.specs.Steps.{all_if}
 use Rattle.vm_guest.specs.declared.asked.Statement.{Statement}
 use Rattle.vm_realm.specs.declared.step.Step.{Step}
-use Rattle.vm_realm.specs.declared.step.Step.TheVariants.{Issue, Execute, Resume, Begin, Finish, Announce, Collect, Pump, Lease, GiveBack}
+use Rattle.vm_realm.specs.declared.step.Step.TheVariants.{Pump}
 use Rattle.vm_realm.specs.World.{WorldState, IsOpening, IsDone, statement_count}
 use Rattle.vm_realm.specs.Enabled.{enabled, is_enabled, begins_line, waits}
-use Rattle.vm_realm.specs.Steps.{Steps, Leads, DoesFinishWith}
-use Rattle.vm_realm.specs.Left.{left_of, bad_count}
-use Rattle.vm_realm.specs.Slice.{Slice, slice_at, SameEverywhere}
+use Rattle.vm_realm.specs.Steps.{Steps}
+use Rattle.vm_realm.specs.Left.{left_of}
+use Rattle.vm_realm.specs.Slice.{Slice, SameEverywhere}
 use Rattle.vm_realm.specs.Slice.Out.{Asked, Kept}
-use Rattle.vm_realm.specs.SliceSteps.{SliceDoes, Takes, MovesOne, TakesNone, takes_by, IsDeviceOf, IsServed}
+use Rattle.vm_realm.specs.SliceSteps.{SliceDoes, Takes, MovesOne, TakesNone, IsDeviceOf, IsServed}
 use Rattle.vm_realm.specs.Inner.{Inner}
-use Rattle.vm_realm.specs.Places.{Spot, places_of, is_live, IsOncePlaced, AgreesWithOwners}
-use Rattle.vm_realm.specs.Sound.{IsRunnable, IsSound, IsPosted, IsSoundSlice, IsHandle, IsWhole, IsWholeSlice}
+use Rattle.vm_realm.specs.Sound.{IsRunnable, IsSound, IsPosted, IsSoundSlice, IsHandle, IsWholeSlice}
 
 -- ---- the list of steps
 

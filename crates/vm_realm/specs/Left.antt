@@ -1,18 +1,14 @@
 -- How many steps may be left in a world, at most; and how many frames failed.
-use Rattle.std.specs.Prelude.{ℕ, ◌+◌, ◌-◌, ◌*◌, List, [], ◌++◌, length, map, sum_by, Option, Some, None, Ok, Err}
-use Rattle.std.specs.List.{flat_map}
+use Rattle.std.specs.Prelude.{ℕ, ◌+◌, ◌-◌, ◌*◌, List, [], length, map, sum_by, Option, Some, None, Ok, Err}
 use Rattle.v4l_const.specs.declared.ioctl_code.IoctlCode.TheVariants.{QBuf}
-use Rattle.vm_local.specs.declared.entry.Entry.{Entry}
-use Rattle.vm_local.specs.declared.entry.Entry.TheVariants.{Bad}
 use Rattle.vm_wire.specs.Message.{Ask}
 use Rattle.vm_wire.specs.Message.Ask.{Unusable, Judged}
 use Rattle.vm_wire.specs.declared.command.Command.{Command}
 use Rattle.vm_wire.specs.declared.command.Command.TheVariants.{Ioctl}
 use Rattle.vm_wire.specs.declared.event.EventMsg.{EventMsg}
 use Rattle.vm_session.specs.State.{SessionState}
-use Rattle.vm_exchange.specs.Messages.{flight_of}
 use Rattle.vm_guest.specs.Process.{ProcessState, begun}
-use Rattle.vm_realm.specs.World.{WorldState, jobs_out, leases_out, handles_of}
+use Rattle.vm_realm.specs.World.{WorldState, jobs_out, leases_out}
 
 -- ---- the steps that are left
 

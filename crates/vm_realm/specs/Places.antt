@@ -1,16 +1,13 @@
 -- Where the memories of a handle are.
-use Rattle.std.specs.Prelude.{ℕ, ◌≡◌, ◌⊎◌, ◌↔◌, ◌||◌, Bool, true, false, List, [], ◌∷◌, ◌++◌, Contains, length, map, take, drop, is_some, Option, Some, None}
+use Rattle.std.specs.Prelude.{ℕ, Bool, true, false, List, [], ◌∷◌, ◌++◌, length, map, take, drop, is_some, Option, Some, None}
 use Rattle.std.specs.List.{filter_map, range_with_len}
 use Rattle.std.specs.Option.{option_to_list}
-use Rattle.vm_mem.specs.Lists.{occurrences}
 use Rattle.vm_marks.specs.Marks.{places_of as marked_places}
 use Rattle.vm_frame.specs.declared.mem.Held.{Held}
 use Rattle.vm_job.specs.Job.{JobParts}
 use Rattle.vm_local.specs.declared.entry.Entry.{Entry}
 use Rattle.vm_local.specs.declared.entry.Entry.TheVariants.{Called}
 use Rattle.vm_local.specs.State.{LocalState}
-use Rattle.vm_local.specs.Memory.{is_lent}
-use Rattle.vm_home.specs.Home.{is_kept}
 use Rattle.vm_home.specs.Moves.{memory_at, touched, stopped_count}
 use Rattle.vm_log.specs.declared.away.Away.{Away}
 use Rattle.vm_log.specs.declared.away.Away.TheVariants.{Nothing, Sent, Lent}

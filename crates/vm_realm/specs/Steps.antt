@@ -1,5 +1,5 @@
 -- What each step does: it is the driver's part or the device's part, over the world's lists.
-use Rattle.std.specs.Prelude.{ℕ, ◌≡◌, ◌+◌, ◌-◌, ◌==◌, IsTrue, true, List, [], ◌∷◌, ◌++◌, map, find, Option, Some, Bool, false, not, ◌&&◌}
+use Rattle.std.specs.Prelude.{ℕ, ◌≡◌, ◌+◌, ◌-◌, ◌==◌, IsTrue, true, List, [], ◌∷◌, ◌++◌, find, Option, Some}
 use Rattle.std.specs.Option.{option_to_list}
 use Rattle.vm_job.specs.Entry.{IsOf}
 use Rattle.vm_job.specs.Job.{JobParts, DoneParts, CameBack, HasPicture}
@@ -7,7 +7,7 @@ use Rattle.vm_job.specs.declared.job_out.JobOut.{JobOut}
 use Rattle.vm_lease.specs.Lease.{LeaseParts, CameBackDone}
 use Rattle.vm_lease.specs.declared.lease_out.LeaseOut.{LeaseOut}
 use Rattle.vm_link.specs.declared.link.Turn.{Turn}
-use Rattle.vm_link.specs.declared.link.Turn.TheVariants.{Did, Idle}
+use Rattle.vm_link.specs.declared.link.Turn.TheVariants.{Did}
 use Rattle.vm_log.specs.declared.leased.Leased.{Leased}
 use Rattle.vm_wire.specs.declared.delivery.Delivery.{Delivery}
 use Rattle.vm_device.specs.Device.{DeviceState}

@@ -1,11 +1,10 @@
 -- The driver, the device, and what is under way between them.
 use Rattle.std.specs.Prelude.{ℕ, ◌≡◌, List, [], length, sum_by}
-use Rattle.std.specs.List.{filter_map, flat_map}
+use Rattle.std.specs.List.{filter_map}
 use Rattle.vm_wire.specs.declared.delivery.Delivery.{Delivery}
 use Rattle.vm_script.specs.Script.{ScriptLines}
 use Rattle.vm_lease.specs.declared.lease_out.LeaseOut.{LeaseOut}
 use Rattle.vm_job.specs.declared.job_out.JobOut.{JobOut}
-use Rattle.vm_handle.specs.Handle.{HandleState}
 use Rattle.vm_device.specs.Device.{fresh_device}
 use Rattle.vm_host.specs.Part.{Part}
 use Rattle.vm_guest.specs.Chain.{event_chains}
