@@ -106,7 +106,7 @@ queue_busy frames session s t reached on =
         (ap is_idle (All-head (λ (b : Queued). IsThere AsQueued (queue_of s t) b.buffer.index) x xs there).1))
         (by_list xs (All-tail (λ (b : Queued). IsMemoryAt s t b.buffer.index b.held) x xs are) (All-tail (λ (b : Queued). IsThere AsQueued (queue_of s t) b.buffer.index) x xs there))
 
-places_all : (P : Held → Type 0) (qs : List SessionQueue) → ((p : ℕ) → p < length qs → All P (memories (get_or qs p opening_queue).queued)) → All P (queued_memories qs)
+pub places_all : (P : Held → Type 0) (qs : List SessionQueue) → ((p : ℕ) → p < length qs → All P (memories (get_or qs p opening_queue).queued)) → All P (queued_memories qs)
 places_all P [] each = All-nil P
 places_all P (q ∷ qs) each =
     All-append P (memories q.queued) (queued_memories qs) (each 0 (omega arith)) (places_all P qs (λ p within. each (suc p) (omega (arith, within))))

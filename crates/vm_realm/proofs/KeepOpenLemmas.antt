@@ -358,7 +358,7 @@ record IsClosed (x : Slice) (v : Inner) (m : Posting) (d : DeviceState) (line : 
   quiet : is_quiet s ≡ true
   slice : IsSlice v.frames s x.job (earlier_of x) None (driver_state x) v.ahead
 
-none_runs : (x : Slice) (v : Inner) (s : SessionState) → IsSoundSlice x v → x.session ≡ Some s → s.running ≡ None → x.job ≡ None
+pub none_runs : (x : Slice) (v : Inner) (s : SessionState) → IsSoundSlice x v → x.session ≡ Some s → s.running ≡ None → x.job ≡ None
 none_runs x v s sound is idle =
     no_job x.job (sym sound.runs ∙ (ap spec_running is ∙ ap (λ o. option_map (λ (r : Running). r.spec) o) idle))
   where

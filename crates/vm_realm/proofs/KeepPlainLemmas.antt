@@ -149,13 +149,13 @@ row_same s StreamOnCode p plain = (
 )
 row_same s code p plain = absurd (false≢true plain)
 
-ok_same : {A B : Type 0} (a b : A) → ◌≡◌ {A = Result A B} (Ok a) (Ok b) → a ≡ b
+pub ok_same : {A B : Type 0} (a b : A) → ◌≡◌ {A = Result A B} (Ok a) (Ok b) → a ≡ b
 ok_same a b is = cc
 
-not_ok : {A B : Type 0} (e : B) (a : A) → ◌≡◌ {A = Result A B} (Err e) (Ok a) → ⊥
+pub not_ok : {A B : Type 0} (e : B) (a : A) → ◌≡◌ {A = Result A B} (Err e) (Ok a) → ⊥
 not_ok e a is = cc
 
-outcome_row : (o : Option Errno) (r : IoctlRow) (a : IoctlAnswer) → refused_or o (record { payload = r.payload; back = r.back; next = r.next }) ≡ Ok a → (a.next ≡ r.next) × (a.back ≡ r.back)
+pub outcome_row : (o : Option Errno) (r : IoctlRow) (a : IoctlAnswer) → refused_or o (record { payload = r.payload; back = r.back; next = r.next }) ≡ Ok a → (a.next ≡ r.next) × (a.back ≡ r.back)
 outcome_row None r a is =
     let same : record { payload = r.payload; back = r.back; next = r.next } ≡ a = ok_same {A = IoctlAnswer} (record { payload = r.payload; back = r.back; next = r.next }) a is in
     (ap (λ (z : IoctlAnswer). z.next) (sym same), ap (λ (z : IoctlAnswer). z.back) (sym same))
@@ -310,8 +310,9 @@ plain_address s t line call reply plain leads =
       | inr done ↦ ap address_in done.1 ∙ plain_row s line (address_in reply) call plain
     ]
 
-plain_leaves : (line : ℕ) (call : Call) → is_plain call ≡ true → (a b : LocalState) (reply : Reply) → IsCall a line call reply b → ((u i : ℕ) → memory_at b u i ≡ memory_at a u i) × (address_in reply ≡ 0)
-plain_leaves line call plain a b reply leads = (plain_memory a b line call reply plain leads, plain_address a b line call reply plain leads)
+plain_leaves : (line : ℕ) (call : Call) (a : LocalState) → is_plain call ≡ true → (b : LocalState) (reply : Reply) → IsCall a line call reply b → ((u i : ℕ) → memory_at b u i ≡ memory_at a u i) × (address_in reply < 2 ^ 64)
+plain_leaves line call a plain b reply leads =
+    (plain_memory a b line call reply plain leads, subst (λ n. n < 2 ^ 64) (sym (plain_address a b line call reply plain leads)) (lit< tt))
 
 pub come_none : (s t : LocalState) (call : Call) (reply : Reply) → ComeBack s t call [] → ComeWith s t call reply []
 come_none s t call (Refused e) come = refl
@@ -330,7 +331,8 @@ pub record IsAnswered (x : Slice) (v : Inner) (s next : SessionState) (answer : 
   pub slice : IsSlice v.frames next x.job (earlier_of x) (Some (Called line call reply)) (driver_state x) ahead
 
 pub answered_sound : (x : Slice) (v : Inner) (m : Posting) (s next : SessionState) (answer : Answer) (line : ℕ) (call : Call) → IsPlainCall call →
-    ((a b : LocalState) (reply : Reply) → IsCall a line call reply b → ((u i : ℕ) → memory_at b u i ≡ memory_at a u i) × (address_in reply ≡ 0)) → IsSoundSlice x v → IsOutside x v →
+    ((b : LocalState) (reply : Reply) → IsCall (driver_state x) line call reply b → response_to s.id (driver_state x) call reply ≡ answer.response →
+    ((u i : ℕ) → memory_at b u i ≡ memory_at (driver_state x) u i) × (address_in reply < 2 ^ 64)) → IsSoundSlice x v → IsOutside x v →
     x.handle.stage ≡ Underway line call → IsSome (crossing_from x.handle call) → m.request.who ≡ x.who → x.session ≡ Some s → x.handle.session ≡ Some s.id →
     IsSlice v.frames s x.job (earlier_of x) None (driver_state x) v.ahead → IsAnswered x v s next answer line call →
     GoesOnSoundly (record x { out = Told (told_by m answer); session = Some next }) v
@@ -347,7 +349,7 @@ answered_sound x v m s next answer line call p leaves sound is under crosses who
     let carry : (held : List Held) → AreUsers v.ahead held → AreUsers a.ahead held = λ held users.
     held_alike u a.ahead held on
     (All-weaker (λ (h : Held). IsUsers r (memory_at r h.queue h.index) h.mem) (λ (h : Held). IsUsers u (memory_at u h.queue h.index) h.mem)
-    (λ h one. subst (λ n. IsUsers u n h.mem) (sym ((leaves r u a.reply by.1).0 h.queue h.index))
+    (λ h one. subst (λ n. IsUsers u n h.mem) (sym ((leaves u a.reply by.1 a.told).0 h.queue h.index))
     (users_like r u (memory_at r h.queue h.index) h.mem is.reached (like_call r u line call a.reply p.may by.1) one)) held (held_alike v.ahead r held back users)) in
     let w : Inner = record v { executed = Some e; before = r; ahead = a.ahead } in
     on_soundly (record x { out = Told reply; session = Some next }) v w refl (done_sound x v w reply (Some next) sound (record {
@@ -364,7 +366,7 @@ answered_sound x v m s next answer line call p leaves sound is under crosses who
         is_call = by.1;
         who = who;
         bytes = ap response_bytes (sym a.told ∙ ap (λ k. response_to (id_of k) r call a.reply) (sym told));
-        address = subst (λ n. n < 2 ^ 64) (sym (leaves r u a.reply by.1).1) (lit< tt);
+        address = (leaves u a.reply by.1 a.told).1;
         small = λ k opens. absurd (a.plain_told k (sym a.told ∙ (ap (λ z. response_to (id_of z) r call a.reply) (sym told) ∙ opens)));
         memories = subst (ComeWith r u call a.reply) (sym a.held) (come_none r u call a.reply (nothing_back r u call (p.nothing r) (p.none_made u)));
         quiet = λ halts done. absurd (true≢false (sym halts ∙ p.never));
@@ -397,7 +399,7 @@ plain_served (Err errno) x x' v m d s code payload line call memory is_outcome p
     subst (Goes v.frames s x.job (earlier_of x) line call (driver_state x) v.ahead) is_outcome
     (slice_answers v.frames s x.job (earlier_of x) line call memory [] code payload None (driver_state x) v.ahead slice p.may p.never p.unsubscribed words (p.goes (driver_state x)) way
     (λ a is_ok. absurd (not_ok {A = IoctlAnswer} errno a (sym is_outcome ∙ is_ok)))) in
-    subst (λ z. GoesOnSoundly z v) (sym same) (answered_sound x v m s s answer line call p (plain_leaves line call plain) sound is under crosses who session id slice (record {
+    subst (λ z. GoesOnSoundly z v) (sym same) (answered_sound x v m s s answer line call p (λ b reply leads told. plain_leaves line call (driver_state x) plain b reply leads) sound is under crosses who session id slice (record {
       reply = goes.0;
       ahead = goes.1;
       told = goes.2;
@@ -422,7 +424,7 @@ plain_served (Ok a) x x' v m d s code payload line call memory is_outcome plain 
     subst (Goes v.frames s x.job (earlier_of x) line call (driver_state x) v.ahead) is_outcome
     (slice_answers v.frames s x.job (earlier_of x) line call memory [] code payload None (driver_state x) v.ahead slice p.may p.never p.unsubscribed words (p.goes (driver_state x)) way
     (λ b is_ok. subst (λ (z : IoctlAnswer). IsSoundSession z.next) (ok_same {A = IoctlAnswer} a b (sym is_outcome ∙ is_ok)) own)) in
-    subst (λ z. GoesOnSoundly z v) (sym same) (answered_sound x v m s a.next answer line call p (plain_leaves line call plain) sound is under crosses who session id slice (record {
+    subst (λ z. GoesOnSoundly z v) (sym same) (answered_sound x v m s a.next answer line call p (λ b reply leads told. plain_leaves line call (driver_state x) plain b reply leads) sound is under crosses who session id slice (record {
       reply = goes.0;
       ahead = goes.1;
       told = goes.2;

@@ -103,7 +103,7 @@ unfolding is_mapping_call
 reply_free s line a b (Mmap m t i ro) other = absurd (true≢false other)
 reply_free s line a b call other = refl
 
-map_reply : (s : LocalState) (line a : ℕ) (m : List ℕ) (t i : ℕ) (ro : Bool) → (row_of s line a (Mmap m t i ro)).reply ≡ Mapped a (buffer_of (queue_of s t) i).length
+pub map_reply : (s : LocalState) (line a : ℕ) (m : List ℕ) (t i : ℕ) (ro : Bool) → (row_of s line a (Mmap m t i ro)).reply ≡ Mapped a (buffer_of (queue_of s t) i).length
 unfolding mmap_row
 map_reply s line a m t i ro = refl
 

@@ -309,7 +309,7 @@ stop_along s t (ReqBufs u m n) held stops along = along
 stop_along s t (StreamOff u) held stops along = along
 stop_along s t call held stops along = absurd (false≢true stops)
 
-stop_response : (id : ℕ) (s t : LocalState) (call : Call) (reply : Reply) → is_stopping call ≡ true → t.model ≡ s.model → response_to id t call reply ≡ response_to id s call reply
+pub stop_response : (id : ℕ) (s t : LocalState) (call : Call) (reply : Reply) → is_stopping call ≡ true → t.model ≡ s.model → response_to id t call reply ≡ response_to id s call reply
 stop_response id s t call (Refused errno) stops same = refl
 stop_response id s t CloseHandle reply stops same = refl
 stop_response id s t (ReqBufs u m n) (Count count) stops same = ap (λ (x : Model). response_to id (record s { model = x }) (ReqBufs u m n) (Count count)) same

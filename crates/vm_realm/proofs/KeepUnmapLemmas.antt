@@ -143,7 +143,7 @@ unmaps : (d : DeviceState) (held : List Held) (addr : ℕ) (o : Option LiveRange
 unmaps d held addr None a some does = absurd (false≢true some)
 unmaps d held addr (Some r) a some does = (does.0, does.2)
 
-same_session : (d : DeviceState) (region : RegionState) (o : Option ℕ) → session_in (with_region d region) o ≡ session_in d o
+pub same_session : (d : DeviceState) (region : RegionState) (o : Option ℕ) → session_in (with_region d region) o ≡ session_in d o
 same_session d region None = refl
 same_session d region (Some id) = refl
 
@@ -166,7 +166,7 @@ seated_unmap x v m d region line name s sound is under crosses who none session 
     × IsSlice v.frames s x.job (earlier_of x) (Some (Called line (Munmap name) first_reply)) r ahead =
     slice_stays_apart v.frames s x.job (earlier_of x) line (Munmap name) Done r v.ahead (unbound v.ahead name) slice refl (unmap_done v.ahead line name there) in
     let id : x.handle.session ≡ Some s.id = sym is.own ∙ subst (λ o. IfSome o (λ z. id_ahead x.handle x.out ≡ Some z.id)) session sound.named in
-    answered_sound x v m s s (unmap_answer d region m.held) line (Munmap name) (unmap_call name) (λ a b reply leads. unmap_leaves line name a b reply leads) sound is under crosses who session id slice (record {
+    answered_sound x v m s s (unmap_answer d region m.held) line (Munmap name) (unmap_call name) (λ b reply leads told. ((unmap_leaves line name r b reply leads).0, subst (λ n. n < 2 ^ 64) (sym (unmap_leaves line name r b reply leads).1) (lit< tt))) sound is under crosses who session id slice (record {
       reply = goes.0;
       ahead = goes.1;
       told = sym goes.2;

@@ -53,3 +53,10 @@ pub mod KeepServeLemmas
 pub mod KeepPlainLemmas
 pub mod KeepUnmapLemmas
 pub mod FewMessagesLemmas
+pub mod KeepHaltLemmas
+pub mod KeepMapLemmas
+pub mod BadLogLemmas
+pub mod BadFrameLemmas
+pub mod BadLemmas
+pub mod PlaceLemmas
+pub mod PlaceFrameLemmas

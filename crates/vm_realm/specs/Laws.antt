@@ -1,13 +1,15 @@
 -- The laws of the world: what each of its steps keeps, lowers and moves.
-use Rattle.std.specs.Prelude.{ℕ, ◌≡◌, ◌≤◌, ◌<◌, ◌+◌, ◌*◌, ◌⊎◌, ◌↔◌, Bool, true, false, not, nat_lt, List, ◌∷◌, ◌++◌, Contains, length, Some, Ok, IfSome}
+use Rattle.std.specs.Prelude.{ℕ, ◌^◌, ◌≡◌, ◌≤◌, ◌<◌, ◌+◌, ◌*◌, ◌⊎◌, ◌↔◌, Bool, true, false, not, nat_lt, List, ◌∷◌, ◌++◌, Contains, length, Some, Ok, IfSome}
 use Rattle.std.specs.List.{list_any}
+use Rattle.vm_job.specs.Job.{DoneParts}
 use Rattle.vm_local.specs.declared.call.Call.{Call}
-use Rattle.vm_local.specs.declared.call.Call.TheVariants.{CloseHandle, QueryCap, EnumFmt, GFmt, TryFmt, SFmt, EnumInput, GInput, SInput, QueryBuf, StreamOn, Munmap}
+use Rattle.vm_local.specs.declared.call.Call.TheVariants.{CloseHandle, QueryCap, EnumFmt, GFmt, TryFmt, SFmt, EnumInput, GInput, SInput, QueryBuf, StreamOn, StreamOff, Mmap, Munmap, ReqBufs}
 use Rattle.vm_local.specs.declared.entry.Entry.{Entry}
 use Rattle.vm_script.specs.Script.{ScriptLines}
 use Rattle.vm_script.specs.declared.line.LineKind.{LineKind}
 use Rattle.vm_wire.specs.Message.Ask.{Judged}
 use Rattle.vm_wire.specs.declared.command.Command.{Command}
+use Rattle.vm_region.specs.Region.{RegionState, Maps, range_of}
 use Rattle.vm_device.specs.Device.{DeviceState}
 use Rattle.vm_device.specs.Perform.{HasPlaceFor, EachMadeFew, must_wait}
 use Rattle.vm_host.specs.Chains.{named_session}
@@ -20,11 +22,11 @@ use Rattle.vm_guest.specs.Process.{ProcessState, begun, crossing, handle_at}
 use Rattle.vm_guest.specs.Steps.{all_if}
 use Rattle.vm_guest.specs.declared.asked.Statement.{Statement}
 use Rattle.vm_realm.specs.declared.step.Step.{Step}
-use Rattle.vm_realm.specs.declared.step.Step.TheVariants.{Pump}
+use Rattle.vm_realm.specs.declared.step.Step.TheVariants.{Finish, Pump}
 use Rattle.vm_realm.specs.World.{WorldState, IsOpening, IsDone, statement_count}
 use Rattle.vm_realm.specs.Enabled.{enabled, is_enabled, begins_line, waits}
-use Rattle.vm_realm.specs.Steps.{Steps}
-use Rattle.vm_realm.specs.Left.{left_of}
+use Rattle.vm_realm.specs.Steps.{Steps, DoesFinishWith}
+use Rattle.vm_realm.specs.Left.{left_of, bad_count}
 use Rattle.vm_realm.specs.Slice.{Slice, SameEverywhere}
 use Rattle.vm_realm.specs.Slice.Out.{Asked, Kept}
 use Rattle.vm_realm.specs.SliceSteps.{SliceDoes, Takes, MovesOne, TakesNone, IsDeviceOf, IsServed}
@@ -86,6 +88,11 @@ is_plain (QueryBuf t i) = true
 is_plain (StreamOn t) = true
 is_plain call = false
 
+abbrev pub halts_queue : Call → Bool
+halts_queue (ReqBufs t m n) = true
+halts_queue (StreamOff t) = true
+halts_queue call = false
+
 abbrev pub gives_mapping : Call → Bool
 gives_mapping (Munmap m) = true
 gives_mapping call = false
@@ -100,6 +107,23 @@ CallsKeepSlice test =
     (posted : IsPosted x m) → test posted.call ≡ true → IsSoundSlice x v →
     (x.out ≡ Asked m) ⊎ (x.out ≡ Kept m) → m.request.asks ≡ Judged (Ok c) → IsDeviceOf x d →
     must_wait d c ≡ false → IsServed m c d x x' → IsWholeSlice x' → GoesOnSoundly x' v
+
+-- One that maps a frame does, where each address at which the device maps goes over the wire.
+abbrev pub makes_mapping : Call → Bool
+makes_mapping (Mmap m t i ro) = true
+makes_mapping call = false
+
+abbrev pub MapsLow : DeviceState → Type 0
+MapsLow d =
+    (tag pages addr : ℕ) (region : RegionState) →
+    Maps (range_of tag d.region.ranges) d.region tag pages addr region → addr < 2 ^ 64
+
+abbrev pub MappingsKeepSlice : Type 0
+MappingsKeepSlice =
+    (x x' : Slice) (v : Inner) (m : Posting) (c : Command) (d : DeviceState)
+    (posted : IsPosted x m) → makes_mapping posted.call ≡ true → IsSoundSlice x v →
+    (x.out ≡ Asked m) ⊎ (x.out ≡ Kept m) → m.request.asks ≡ Judged (Ok c) → IsDeviceOf x d →
+    MapsLow d → IsServed m c d x x' → IsWholeSlice x' → GoesOnSoundly x' v
 
 -- an event that is taken keeps all of it
 abbrev pub TakingKeepsSlice : Type 0
@@ -181,3 +205,25 @@ abbrev pub NoStallOnceBegun : Type 0
 NoStallOnceBegun =
     (w : WorldState) (n : ℕ) → IsSound w → IsBusy (process_at w.guest n) →
     list_any (λ s. not (begins_line s)) (enabled w) ≡ true
+
+-- ---- frames that fail
+
+-- a job that comes back bad is one frame more that failed; a good one is none
+abbrev pub one_unless : Bool → ℕ
+one_unless true = 0
+one_unless false = 1
+
+abbrev pub FinishCounts : Type 0
+FinishCounts =
+    (w w' : WorldState) (number : ℕ) (done : DoneParts) → IsSound w →
+    DoesFinishWith done number w w' → bad_count w' ≡ bad_count w + one_unless done.good
+
+-- and no other step changes how many did
+abbrev pub is_finish : Step → Bool
+is_finish (Finish number) = true
+is_finish s = false
+
+abbrev pub OthersCountNone : Type 0
+OthersCountNone =
+    (w w' : WorldState) (s : Step) → IsSound w → Steps w s w' → is_finish s ≡ false →
+    bad_count w' ≡ bad_count w

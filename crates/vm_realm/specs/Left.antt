@@ -1,14 +1,18 @@
 -- How many steps may be left in a world, at most; and how many frames failed.
-use Rattle.std.specs.Prelude.{ℕ, ◌+◌, ◌-◌, ◌*◌, List, [], length, map, sum_by, Option, Some, None, Ok, Err}
+use Rattle.std.specs.Prelude.{ℕ, ◌+◌, ◌-◌, ◌*◌, List, [], ◌++◌, length, map, sum_by, Option, Some, None, Ok, Err}
+use Rattle.std.specs.List.{flat_map}
 use Rattle.v4l_const.specs.declared.ioctl_code.IoctlCode.TheVariants.{QBuf}
+use Rattle.vm_local.specs.declared.entry.Entry.{Entry}
+use Rattle.vm_local.specs.declared.entry.Entry.TheVariants.{Bad}
 use Rattle.vm_wire.specs.Message.{Ask}
 use Rattle.vm_wire.specs.Message.Ask.{Unusable, Judged}
 use Rattle.vm_wire.specs.declared.command.Command.{Command}
 use Rattle.vm_wire.specs.declared.command.Command.TheVariants.{Ioctl}
 use Rattle.vm_wire.specs.declared.event.EventMsg.{EventMsg}
 use Rattle.vm_session.specs.State.{SessionState}
+use Rattle.vm_exchange.specs.Messages.{flight_of}
 use Rattle.vm_guest.specs.Process.{ProcessState, begun}
-use Rattle.vm_realm.specs.World.{WorldState, jobs_out, leases_out}
+use Rattle.vm_realm.specs.World.{WorldState, jobs_out, leases_out, handles_of}
 
 -- ---- the steps that are left
 
@@ -50,6 +54,25 @@ left_of w =
 
 -- ---- the frames that failed
 
+abbrev pub one_if_bad : Entry → ℕ
+one_if_bad Bad = 1
+one_if_bad e = 0
+
+abbrev pub bad_in : List Entry → ℕ
+bad_in entries = sum_by one_if_bad entries
+
 abbrev pub unsent_in : Option SessionState → List EventMsg
 unsent_in None = []
 unsent_in (Some s) = map (λ e. e.msg) s.unsent
+
+-- the messages of the device that are under way, of all sessions: held back, sent, and unsent
+abbrev pub messages_of : WorldState → List EventMsg
+messages_of w =
+    map (λ d. d.msg) w.guest.pump.held
+    ++ (map (λ d. d.msg) w.events ++ flat_map unsent_in w.host.device.sessions)
+
+-- how many frames failed, by all logs and by what is still to be logged
+abbrev pub bad_count : WorldState → ℕ
+bad_count w =
+    sum_by (λ h. bad_in h.log.entries) (handles_of w)
+    + bad_in (flight_of w.script.model (messages_of w))

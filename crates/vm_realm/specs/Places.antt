@@ -1,5 +1,5 @@
 -- Where the memories of a handle are.
-use Rattle.std.specs.Prelude.{ℕ, Bool, true, false, List, [], ◌∷◌, ◌++◌, length, map, take, drop, is_some, Option, Some, None}
+use Rattle.std.specs.Prelude.{ℕ, ◌≡◌, ◌⊎◌, ◌↔◌, Bool, true, false, List, [], ◌∷◌, ◌++◌, Contains, length, map, take, drop, is_some, Option, Some, None}
 use Rattle.std.specs.List.{filter_map, range_with_len}
 use Rattle.std.specs.Option.{option_to_list}
 use Rattle.vm_marks.specs.Marks.{places_of as marked_places}
@@ -8,6 +8,8 @@ use Rattle.vm_job.specs.Job.{JobParts}
 use Rattle.vm_local.specs.declared.entry.Entry.{Entry}
 use Rattle.vm_local.specs.declared.entry.Entry.TheVariants.{Called}
 use Rattle.vm_local.specs.State.{LocalState}
+use Rattle.vm_local.specs.Memory.{is_lent}
+use Rattle.vm_home.specs.Home.{is_kept}
 use Rattle.vm_home.specs.Moves.{memory_at, touched, stopped_count}
 use Rattle.vm_log.specs.declared.away.Away.{Away}
 use Rattle.vm_log.specs.declared.away.Away.TheVariants.{Nothing, Sent, Lent}
@@ -111,3 +113,16 @@ places_of x v =
     (numbers_in (told_state v) (filter_map (λ e. e.held) (unsent_in x.session)))
     ++ (lie_at InSession (numbers_in v.ahead (queued_held x.session))
     ++ lie_at InJob (numbers_in v.ahead (job_held x.job)))))))
+
+-- the memory is with the driver, at home or out with a lease
+abbrev pub IsWithDriver : Slice → Inner → ℕ → Type 0
+IsWithDriver x v m =
+    Contains (places_of x v) (record { spot = WithHandle; number = m })
+    ⊎ Contains (places_of x v) (record { spot = InLease; number = m })
+
+-- while no call crosses, the memories that the log lends to no queue are with the driver, and no
+-- others
+abbrev pub AgreesWithOwners : Slice → Inner → Type 0
+AgreesWithOwners x v =
+    x.out ≡ Nowhere → (m : ℕ) → is_kept (driver_state x) m ≡ true →
+    (is_lent (driver_state x) m ≡ false) ↔ (IsWithDriver x v m)

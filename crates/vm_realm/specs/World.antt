@@ -1,10 +1,11 @@
 -- The driver, the device, and what is under way between them.
 use Rattle.std.specs.Prelude.{ℕ, ◌≡◌, List, [], length, sum_by}
-use Rattle.std.specs.List.{filter_map}
+use Rattle.std.specs.List.{filter_map, flat_map}
 use Rattle.vm_wire.specs.declared.delivery.Delivery.{Delivery}
 use Rattle.vm_script.specs.Script.{ScriptLines}
 use Rattle.vm_lease.specs.declared.lease_out.LeaseOut.{LeaseOut}
 use Rattle.vm_job.specs.declared.job_out.JobOut.{JobOut}
+use Rattle.vm_handle.specs.Handle.{HandleState}
 use Rattle.vm_device.specs.Device.{fresh_device}
 use Rattle.vm_host.specs.Part.{Part}
 use Rattle.vm_guest.specs.Chain.{event_chains}
@@ -42,6 +43,10 @@ handle_count script = sum_by (λ p. length p.handles) script.processes
 
 abbrev pub statement_count : ScriptLines → ℕ
 statement_count script = sum_by (λ p. length p.lines) script.processes
+
+-- all handles, process by process
+abbrev pub handles_of : WorldState → List HandleState
+handles_of w = flat_map (λ p. p.handles) w.guest.processes
 
 -- every line is answered
 abbrev pub IsDone : WorldState → Type 0

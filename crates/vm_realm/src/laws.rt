@@ -1,8 +1,17 @@
-ghost use Rattle.std.specs.Prelude.{ℕ};
-ghost use Rattle.vm_realm.specs.Laws.{CallsKeepSlice, LeftFalls, ListsEnabled, LogsGrow, NoStall, NoStallOnceBegun, OpeningIsSound, OpeningLeft, PumpKeepsSound, SoundCanGoOn, StepKeepsSlice, StepsMoveOne, TakingKeepsSlice, WaitingKeepsSlice, closes_handle, gives_mapping, is_plain};
+ghost use Rattle.std.specs.Prelude.{ℕ, ◌≡◌, ◌≢◌, true, false, None, map};
+ghost use Rattle.vm_realm.specs.Laws.{CallsKeepSlice, LeftFalls, ListsEnabled, LogsGrow, MappingsKeepSlice, NoStall, NoStallOnceBegun, OpeningIsSound, OpeningLeft, PumpKeepsSound, SoundCanGoOn, StepKeepsSlice, StepsMoveOne, TakingKeepsSlice, WaitingKeepsSlice, closes_handle, gives_mapping, halts_queue, is_plain, FinishCounts, OthersCountNone};
 ghost use Rattle.vm_commute.specs.Commute.{is_open};
 ghost use Rattle.vm_realm.specs.SliceSteps.{TakingIsPumping};
 ghost use Rattle.vm_realm.specs.declared.step.Step.TheVariants.{Announce, Begin, Collect, Finish, GiveBack, Issue, Lease};
+ghost use Rattle.vm_home.specs.Home.{is_kept};
+ghost use Rattle.vm_local.specs.Live.{is_of_device};
+ghost use Rattle.vm_local.specs.Memory.{is_lent};
+ghost use Rattle.vm_log.specs.declared.away.Away.TheVariants.{Sent};
+ghost use Rattle.vm_mem.specs.Lists.{occurrences};
+ghost use Rattle.vm_realm.specs.Inner.{Inner, driver_state};
+ghost use Rattle.vm_realm.specs.Places.{AgreesWithOwners, Lies, with_driver};
+ghost use Rattle.vm_realm.specs.Slice.{Slice};
+ghost use Rattle.vm_realm.specs.Sound.{IsSoundSlice};
 
 /// The list of steps has just those that may come next.
 pub fn what_may_come_is_listed()
@@ -89,11 +98,39 @@ pub fn a_waiting_call_keeps_a_slice()
     ensures { WaitingKeepsSlice }
 {}
 
-/// A call that the device does keeps a slice sound: an open, a close, one that moves no memory, and
-/// one that gives a mapping back.
+/// A call that the device does keeps a slice sound: an open, a close, one that moves no memory, one
+/// that gives a mapping back, one that stops a queue, and one that maps a frame.
 pub fn calls_keep_a_slice()
     ensures opens { CallsKeepSlice is_open }
     ensures closes { CallsKeepSlice closes_handle }
     ensures plain { CallsKeepSlice is_plain }
     ensures unmaps { CallsKeepSlice gives_mapping }
+    ensures halts { CallsKeepSlice halts_queue }
+    ensures maps { MappingsKeepSlice }
+{}
+
+/// A job that comes back bad is one frame more that failed, a good one none; and no other step
+/// changes how many did.
+pub fn frames_that_fail_are_counted()
+    ensures finish { FinishCounts }
+    ensures others { OthersCountNone }
+{}
+
+/// While no call of a handle crosses, the memories that its log lends to no queue are with the
+/// driver, and no others. Each that goes along with no call is there once.
+pub fn owners_have_their_memories()
+    ensures agree { (x : Slice) (v : Inner) → IsSoundSlice x v → AgreesWithOwners x v }
+    ensures once { (x : Slice) (v : Inner) (m : ℕ) → IsSoundSlice x v →
+        is_kept (driver_state x) m ≡ true → is_lent (driver_state x) m ≡ false →
+        (x.handle.log.away ≢ Sent m) →
+        occurrences m (map (λ (l : Lies). l.number) (with_driver x)) ≡ 1 }
+    ensures away { (x : Slice) (v : Inner) (m : ℕ) → IsSoundSlice x v →
+        is_lent (driver_state x) m ≡ true →
+        occurrences m (map (λ (l : Lies). l.number) (with_driver x)) ≡ 0 }
+{}
+
+/// Where no call was executed that isn't collected, what the device has yet to tell makes no frame.
+pub fn no_message_makes_a_frame()
+    ensures { (x : Slice) (v : Inner) (m : ℕ) → IsSoundSlice x v → v.executed ≡ None →
+        is_of_device v.ahead m ≡ true → is_of_device (driver_state x) m ≡ true }
 {}
