@@ -14,7 +14,7 @@ use Rattle.v4l_layout.specs.declared.buffer_rec.BufferRec.{BufferRec}
 use Rattle.vm_frame.specs.declared.mem.Held.{Held}
 use Rattle.vm_wire.specs.Buffers.{buffer_in}
 use Rattle.vm_session.specs.State.{SessionState, is_quiet, queue_of}
-use Rattle.vm_session.specs.Rows.{IoctlRow, IoctlAnswer, ioctl_row, ioctl_outcome, refusal_of, refused_or, held_after, stops, Answers, MayRefuse, querycap_row, enumfmt_row, gfmt_row, tryfmt_row, sfmt_row, enuminput_row, ginput_row, sinput_row, reqbufs_row, querybuf_row, qbuf_row, streamon_row, streamoff_row}
+use Rattle.vm_session.specs.Rows.{IoctlRow, IoctlAnswer, ioctl_row, ioctl_outcome, refusal_of, refused_or, held_after, stops, Answers, MayRefuse, querycap_row, enumfmt_row, gfmt_row, tryfmt_row, sfmt_row, enuminput_row, ginput_row, sinput_row, reqbufs_row, querybuf_row, qbuf_row, streamon_row, streamoff_row, subscribe_row, unsubscribe_row}
 use Rattle.vm_device.specs.Brought.{is_named, is_told, keeps_length, loaded, brought, comes_with}
 use Rattle.vm_device.specs.Device.{DeviceState, session_of, with_session, is_ready}
 use Rattle.vm_device.specs.Keeps.{IsSound}
@@ -120,7 +120,7 @@ frames_kept s UnsubscribeEvent payload wire held come is = tt
 -- a call leaves the id, the job and the events
 row_keeps : (s : SessionState) (code : IoctlCode) (p : List ℕ) (held : List Held)
     → ((ioctl_row s code p held).next.id ≡ s.id) × ((ioctl_row s code p held).next.running ≡ s.running) × ((ioctl_row s code p held).next.unsent ≡ s.unsent)
-unfolding querycap_row enumfmt_row gfmt_row tryfmt_row sfmt_row enuminput_row ginput_row sinput_row reqbufs_row querybuf_row qbuf_row streamon_row streamoff_row
+unfolding querycap_row enumfmt_row gfmt_row tryfmt_row sfmt_row enuminput_row ginput_row sinput_row reqbufs_row querybuf_row qbuf_row streamon_row streamoff_row subscribe_row unsubscribe_row
 row_keeps s QueryCap p held = (refl, refl, refl)
 row_keeps s EnumFmt p held = (refl, refl, refl)
 row_keeps s GFmt p held = (refl, refl, refl)
@@ -134,7 +134,8 @@ row_keeps s QueryBuf p held = (refl, refl, refl)
 row_keeps s QBuf p held = (refl, refl, refl)
 row_keeps s StreamOn p held = (refl, refl, refl)
 row_keeps s StreamOff p held = (refl, refl, refl)
-row_keeps s code p held = (refl, refl, refl)
+row_keeps s SubscribeEvent p held = (refl, refl, refl)
+row_keeps s UnsubscribeEvent p held = (refl, refl, refl)
 
 abbrev next_of : Result IoctlAnswer Errno → SessionState → SessionState
 next_of (Ok a) s = a.next

@@ -9,7 +9,7 @@ use Rattle.std.proofs.Math.ListN.{get_or-map}
 use Rattle.v4l_const.specs.declared.errno.Errno.TheVariants.{Einval}
 use Rattle.v4l_const.specs.declared.four_cc.FourCc.{FourCc}
 use Rattle.v4l_const.specs.declared.ioctl_code.IoctlCode.{IoctlCode}
-use Rattle.v4l_const.specs.declared.ioctl_code.IoctlCode.TheVariants.{QueryCap, EnumFmt, GFmt, SFmt, TryFmt, EnumInput, GInput, SInput, ReqBufs, QueryBuf, QBuf, StreamOn, StreamOff}
+use Rattle.v4l_const.specs.declared.ioctl_code.IoctlCode.TheVariants.{QueryCap, EnumFmt, GFmt, SFmt, TryFmt, EnumInput, GInput, SInput, ReqBufs, QueryBuf, QBuf, StreamOn, StreamOff, SubscribeEvent, UnsubscribeEvent}
 use Rattle.v4l_const.specs.declared.model.Model.{Model}
 use Rattle.v4l_const.specs.declared.numbers.TheConstants.{MEMORY_MMAP}
 use Rattle.v4l_const.specs.Model.{queues as types_of, source_queue, picture_queue}
@@ -32,7 +32,7 @@ use Rattle.vm_wire.specs.Buffers.{buffer_in}
 use Rattle.vm_session.specs.State.{SessionState, SessionQueue, opening_queue, opening_session, queue_kind, queue_of, with_queue, adjusted_for, with_set_format}
 use Rattle.vm_session.specs.Buffers.{frame_tag, frame_count, renewed_queue, with_buffers, queue_with, with_queued, started, stopped_queue}
 use Rattle.vm_session.specs.Mapped.{MappableFrame, frame_at, frame_of, frames_from, frames_of, mappable_frames}
-use Rattle.vm_session.specs.Rows.{ioctl_row, querycap_row, enumfmt_row, gfmt_row, tryfmt_row, sfmt_row, enuminput_row, ginput_row, sinput_row, reqbufs_row, querybuf_row, qbuf_row, streamon_row, streamoff_row}
+use Rattle.vm_session.specs.Rows.{ioctl_row, querycap_row, enumfmt_row, gfmt_row, tryfmt_row, sfmt_row, enuminput_row, ginput_row, sinput_row, reqbufs_row, querybuf_row, qbuf_row, streamon_row, streamoff_row, subscribe_row, unsubscribe_row}
 use Rattle.vm_device.specs.Mappings.{queue_in, HasFrame, IsFramed}
 
 -- ---- the frame at an offset
@@ -349,7 +349,7 @@ qbuf_follows s b held framed keeps =
 -- ---- each call
 
 pub called_follows : (s : SessionState) (code : IoctlCode) (p : List ℕ) (held : List Held) → IsFramed s → KeepsFrames s code p → Follows s (ioctl_row s code p held).next
-unfolding querycap_row enumfmt_row gfmt_row tryfmt_row sfmt_row enuminput_row ginput_row sinput_row reqbufs_row querybuf_row qbuf_row streamon_row streamoff_row
+unfolding querycap_row enumfmt_row gfmt_row tryfmt_row sfmt_row enuminput_row ginput_row sinput_row reqbufs_row querybuf_row qbuf_row streamon_row streamoff_row subscribe_row unsubscribe_row
 called_follows s QueryCap p held framed comes = itself s framed
 called_follows s EnumFmt p held framed comes = itself s framed
 called_follows s GFmt p held framed comes = itself s framed
@@ -363,7 +363,8 @@ called_follows s QueryBuf p held framed comes = itself s framed
 called_follows s QBuf p held framed comes = qbuf_follows s (buffer_in p) held framed comes
 called_follows s StreamOn p held framed comes = put_follows s _ (started (queue_of s _)) framed (refl, refl, λ given. refl) refl
 called_follows s StreamOff p held framed comes = put_follows s _ (stopped_queue (queue_of s _)) framed (refl, refl, λ given. refl) refl
-called_follows s code p held framed comes = itself s framed
+called_follows s SubscribeEvent p held framed comes = itself s framed
+called_follows s UnsubscribeEvent p held framed comes = itself s framed
 
 -- ---- frames come and go
 

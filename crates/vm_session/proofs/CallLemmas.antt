@@ -16,7 +16,7 @@ use Rattle.vm_frame.specs.declared.mem.Mem.TheVariants.{OfFrame, OfUser}
 use Rattle.vm_wire.specs.Wire.{number_at}
 use Rattle.vm_session.specs.State.{SessionState}
 use Rattle.vm_session.specs.Buffers.{memory_kind}
-use Rattle.vm_session.specs.Rows.{IoctlRow, IoctlAnswer, ioctl_row, moves_memories, held_after, stops, refused_or, or_no_memory, Refuses, MayRefuse, querycap_row, enumfmt_row, gfmt_row, tryfmt_row, sfmt_row, enuminput_row, ginput_row, sinput_row, reqbufs_row, querybuf_row, qbuf_row, streamon_row, streamoff_row}
+use Rattle.vm_session.specs.Rows.{IoctlRow, IoctlAnswer, ioctl_row, moves_memories, held_after, stops, refused_or, or_no_memory, Refuses, MayRefuse, querycap_row, enumfmt_row, gfmt_row, tryfmt_row, sfmt_row, enuminput_row, ginput_row, sinput_row, reqbufs_row, querybuf_row, qbuf_row, streamon_row, streamoff_row, subscribe_row, unsubscribe_row}
 
 -- what is refused with memory and without may be refused
 pub may_refuse : (r : IoctlRow) (e : Errno) → Refuses r e → MayRefuse r e
@@ -48,7 +48,7 @@ looks_at_none s UnsubscribeEvent p held alone = refl
 
 -- what is held stays
 still_held : (s : SessionState) (code : IoctlCode) (p : List ℕ) (held : List Held) → moves_memories code ≡ false → held ≡ held_after code held (ioctl_row s code p held).back
-unfolding querycap_row enumfmt_row gfmt_row tryfmt_row sfmt_row enuminput_row ginput_row sinput_row querybuf_row streamon_row
+unfolding querycap_row enumfmt_row gfmt_row tryfmt_row sfmt_row enuminput_row ginput_row sinput_row querybuf_row streamon_row subscribe_row unsubscribe_row
 still_held s QueryCap p held alone = sym (append-nil held)
 still_held s EnumFmt p held alone = sym (append-nil held)
 still_held s GFmt p held alone = sym (append-nil held)
@@ -81,7 +81,7 @@ count_most true n = omega arith
 count_most false n = omega arith
 
 pub made_most : (s : SessionState) (code : IoctlCode) (p : List ℕ) (held : List Held) → (ioctl_row s code p held).next.made ≤ s.made + 32
-unfolding querycap_row enumfmt_row gfmt_row tryfmt_row sfmt_row enuminput_row ginput_row sinput_row reqbufs_row querybuf_row qbuf_row streamon_row streamoff_row
+unfolding querycap_row enumfmt_row gfmt_row tryfmt_row sfmt_row enuminput_row ginput_row sinput_row reqbufs_row querybuf_row qbuf_row streamon_row streamoff_row subscribe_row unsubscribe_row
 made_most s QueryCap p held = omega arith
 made_most s EnumFmt p held = omega arith
 made_most s GFmt p held = omega arith

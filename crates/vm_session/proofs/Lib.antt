@@ -5,6 +5,6 @@ pub mod ReadBackLemmas
 pub mod SizeLemmas
 pub mod SoundLemmas
 mod HeadLemmas
-mod OutLemmas
-mod StreamLemmas
-mod SentLemmas
+pub mod OutLemmas
+pub mod StreamLemmas
+pub mod SentLemmas

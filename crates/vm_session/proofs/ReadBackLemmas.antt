@@ -1,17 +1,17 @@
 -- What a call reads from the payload of its request is what the request asks for: its row has the words that were put in.
 use Rattle.std.proofs.Common.{◌≡◌, ℕ, ◌<◌, ◌^◌, List, refl, ap, ◌∙◌}
 use Rattle.v4l_const.specs.declared.four_cc.FourCc.{FourCc}
-use Rattle.v4l_const.specs.declared.ioctl_code.IoctlCode.TheVariants.{QueryCap, EnumFmt, GFmt, SFmt, TryFmt, EnumInput, GInput, SInput, ReqBufs, QueryBuf, QBuf, StreamOn, StreamOff}
-use Rattle.v4l_layout.specs.Records.{fmtdesc_bytes, format_bytes, input_bytes, request_bytes, buffer_bytes}
+use Rattle.v4l_const.specs.declared.ioctl_code.IoctlCode.TheVariants.{QueryCap, EnumFmt, GFmt, SFmt, TryFmt, EnumInput, GInput, SInput, ReqBufs, QueryBuf, QBuf, StreamOn, StreamOff, SubscribeEvent, UnsubscribeEvent}
+use Rattle.v4l_layout.specs.Records.{fmtdesc_bytes, format_bytes, input_bytes, request_bytes, buffer_bytes, subscription_bytes}
 use Rattle.vm_frame.specs.declared.mem.Held.{Held}
-use Rattle.vm_wire.proofs.BufferLemmas.{reqbufs_reads, querybuf_reads, qbuf_reads}
-use Rattle.vm_wire.specs.Buffers.{reqbufs_request, querybuf_request, qbuf_request, IsQueuedBuffer}
+use Rattle.vm_wire.proofs.BufferLemmas.{reqbufs_reads, querybuf_reads, qbuf_reads, subscription_reads}
+use Rattle.vm_wire.specs.Buffers.{reqbufs_request, querybuf_request, qbuf_request, IsQueuedBuffer, subscription_request}
 use Rattle.vm_wire.specs.declared.buffers.QueuedBuffer.{QueuedBuffer}
 use Rattle.vm_wire.proofs.RecordLemmas.{number_reads_back, fmt_desc_index, fmt_desc_type, format_type_alone, format_type, format_width, format_height, format_code, input_index}
 use Rattle.vm_wire.specs.Records.{fmt_desc_request, format_request, format_type_request, input_request}
 use Rattle.vm_wire.specs.Wire.{le, number_at}
 use Rattle.vm_session.specs.State.{SessionState}
-use Rattle.vm_session.specs.Rows.{IoctlRow, code_at, ioctl_row, querycap_row, enumfmt_row, gfmt_row, tryfmt_row, sfmt_row, enuminput_row, ginput_row, sinput_row, reqbufs_row, querybuf_row, qbuf_row, streamon_row, streamoff_row}
+use Rattle.vm_session.specs.Rows.{IoctlRow, code_at, ioctl_row, querycap_row, enumfmt_row, gfmt_row, tryfmt_row, sfmt_row, enuminput_row, ginput_row, sinput_row, reqbufs_row, querybuf_row, qbuf_row, streamon_row, streamoff_row, subscribe_row, unsubscribe_row}
 
 pub querycap_reads : (s : SessionState) (payload : List ℕ) (held : List Held) → ioctl_row s QueryCap payload held ≡ querycap_row s
 querycap_reads s payload held = refl
@@ -74,3 +74,13 @@ streamon_reads s t held small = ap (λ x. streamon_row s x) (number_reads_back t
 
 pub streamoff_reads : (s : SessionState) (t : ℕ) (held : List Held) → t < 2 ^ 32 → ioctl_row s StreamOff (le t) held ≡ streamoff_row s t
 streamoff_reads s t held small = ap (λ x. streamoff_row s x) (number_reads_back t small)
+
+pub subscribe_reads : (s : SessionState) (e : ℕ) (held : List Held) → e < 2 ^ 32 →
+    ioctl_row s SubscribeEvent (subscription_bytes (subscription_request e)) held ≡ subscribe_row s e
+unfolding subscription_request
+subscribe_reads s e held small = ap (λ r. subscribe_row s r.kind) (subscription_reads e small)
+
+pub unsubscribe_reads : (s : SessionState) (e : ℕ) (held : List Held) → e < 2 ^ 32 →
+    ioctl_row s UnsubscribeEvent (subscription_bytes (subscription_request e)) held ≡ unsubscribe_row s e
+unfolding subscription_request
+unsubscribe_reads s e held small = ap (λ r. unsubscribe_row s r.kind) (subscription_reads e small)

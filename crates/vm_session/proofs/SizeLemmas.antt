@@ -5,10 +5,10 @@ use Rattle.v4l_const.specs.declared.ioctl_code.IoctlCode.{IoctlCode}
 use Rattle.v4l_const.specs.declared.ioctl_code.IoctlCode.TheVariants.{QueryCap, EnumFmt, GFmt, SFmt, ReqBufs, QueryBuf, QBuf, StreamOn, StreamOff, EnumInput, GInput, SInput, TryFmt, SubscribeEvent, UnsubscribeEvent}
 use Rattle.vm_frame.specs.declared.mem.Held.{Held}
 use Rattle.vm_wire.specs.Payload.{HasItsLength}
-use Rattle.vm_wire.proofs.BufferLemmas.{reqbufs_answer_length, querybuf_answer_length, qbuf_answer_length}
+use Rattle.vm_wire.proofs.BufferLemmas.{reqbufs_answer_length, querybuf_answer_length, qbuf_answer_length, subscription_length}
 use Rattle.vm_wire.proofs.RecordLemmas.{capability_length, fmt_desc_answer_length, format_answer_length, input_answer_length}
 use Rattle.vm_session.specs.State.{SessionState}
-use Rattle.vm_session.specs.Rows.{IoctlRow, IoctlAnswer, ioctl_row, ioctl_outcome, outcome_of, refused_or, refusal_of, querycap_row, enumfmt_row, gfmt_row, tryfmt_row, sfmt_row, enuminput_row, ginput_row, sinput_row, reqbufs_row, querybuf_row, qbuf_row, streamon_row, streamoff_row}
+use Rattle.vm_session.specs.Rows.{IoctlRow, IoctlAnswer, ioctl_row, ioctl_outcome, outcome_of, refused_or, refusal_of, querycap_row, enumfmt_row, gfmt_row, tryfmt_row, sfmt_row, enuminput_row, ginput_row, sinput_row, reqbufs_row, querybuf_row, qbuf_row, streamon_row, streamoff_row, subscribe_row, unsubscribe_row}
 
 abbrev payload_in : Result IoctlAnswer Errno → List ℕ
 payload_in (Ok a) = a.payload
@@ -26,7 +26,7 @@ sized_row memory r n a size is =
 
 pub answer_length : (memory : Bool) (s : SessionState) (code : IoctlCode) (payload : List ℕ) (held : List Held) (a : IoctlAnswer) →
     HasItsLength code payload → ioctl_outcome memory s code payload held ≡ Ok a → length a.payload ≡ length payload
-unfolding querycap_row enumfmt_row gfmt_row tryfmt_row sfmt_row enuminput_row ginput_row sinput_row reqbufs_row querybuf_row qbuf_row streamon_row streamoff_row
+unfolding querycap_row enumfmt_row gfmt_row tryfmt_row sfmt_row enuminput_row ginput_row sinput_row reqbufs_row querybuf_row qbuf_row streamon_row streamoff_row subscribe_row unsubscribe_row
 answer_length memory s QueryCap p held a sized is =
     sized_row memory (ioctl_row s QueryCap p held) 104 a (capability_length s.model) is ∙ sym sized
 answer_length memory s EnumFmt p held a sized is =
@@ -53,5 +53,7 @@ answer_length memory s StreamOn p held a sized is =
     sized_row memory (ioctl_row s StreamOn p held) 4 a refl is ∙ sym sized
 answer_length memory s StreamOff p held a sized is =
     sized_row memory (ioctl_row s StreamOff p held) 4 a refl is ∙ sym sized
-answer_length memory s SubscribeEvent p held a sized is = cc
-answer_length memory s UnsubscribeEvent p held a sized is = cc
+answer_length memory s SubscribeEvent p held a sized is =
+    sized_row memory (ioctl_row s SubscribeEvent p held) 32 a (subscription_length _) is ∙ sym sized
+answer_length memory s UnsubscribeEvent p held a sized is =
+    sized_row memory (ioctl_row s UnsubscribeEvent p held) 32 a (subscription_length _) is ∙ sym sized

@@ -2,20 +2,21 @@
 -- after the Linux V4L2 interface.
 use Rattle.std.specs.Prelude.{ℕ, ◌≡◌, ◌==◌, ◌&&◌, ◌||◌, Bool, true, false, not, nat_lt, if◌then◌else◌, List, [], ◌∷◌, ◌++◌, length, slice_index_or, Option, Some, None, is_some, Result, Ok, Err, ⊤}
 use Rattle.v4l_const.specs.declared.errno.Errno.{Errno}
-use Rattle.v4l_const.specs.declared.errno.Errno.TheVariants.{Einval, Ebusy, Enomem, Eopnotsupp}
+use Rattle.v4l_const.specs.declared.errno.Errno.TheVariants.{Einval, Ebusy, Enomem}
 use Rattle.v4l_const.specs.declared.four_cc.FourCc.{FourCc}
 use Rattle.v4l_const.specs.declared.ioctl_code.IoctlCode.{IoctlCode}
-use Rattle.v4l_const.specs.declared.ioctl_code.IoctlCode.TheVariants.{QueryCap, EnumFmt, GFmt, SFmt, TryFmt, ReqBufs, QueryBuf, QBuf, StreamOn, StreamOff, EnumInput, GInput, SInput}
-use Rattle.v4l_const.specs.declared.numbers.TheConstants.{MEMORY_MMAP, MEMORY_USERPTR}
+use Rattle.v4l_const.specs.declared.ioctl_code.IoctlCode.TheVariants.{QueryCap, EnumFmt, GFmt, SFmt, TryFmt, ReqBufs, QueryBuf, QBuf, StreamOn, StreamOff, EnumInput, GInput, SInput, SubscribeEvent, UnsubscribeEvent}
+use Rattle.v4l_const.specs.declared.numbers.TheConstants.{EVENT_ALL, EVENT_FRAME_SYNC, MEMORY_MMAP, MEMORY_USERPTR}
+use Rattle.v4l_const.specs.Model.{has_events}
 use Rattle.v4l_format.specs.Fmt.{picture_size}
 use Rattle.v4l_format.specs.FormatRow.{formats_of, grey}
 use Rattle.v4l_layout.specs.declared.buffer_rec.BufferRec.{BufferRec}
-use Rattle.v4l_layout.specs.Records.{capability_bytes, fmtdesc_bytes, format_bytes, input_bytes, request_bytes, buffer_bytes}
+use Rattle.v4l_layout.specs.Records.{capability_bytes, fmtdesc_bytes, format_bytes, input_bytes, request_bytes, buffer_bytes, subscription_bytes}
 use Rattle.v4l_rules.specs.Formats.{is_source}
 use Rattle.v4l_rules.specs.Refusals.{first_refusal, no_type, no_inputs, no_input}
 use Rattle.vm_frame.specs.declared.mem.Held.{Held}
 use Rattle.vm_queue.specs.Buffers.{memories}
-use Rattle.vm_wire.specs.Buffers.{reqbufs_answer, querybuf_answer, qbuf_answer, buffer_in}
+use Rattle.vm_wire.specs.Buffers.{reqbufs_answer, querybuf_answer, qbuf_answer, buffer_in, subscription_request}
 use Rattle.vm_wire.specs.Records.{capability_of, fmt_desc_answer, format_answer, input_answer}
 use Rattle.vm_wire.specs.Wire.{le, number_at}
 use Rattle.vm_session.specs.State.{SessionQueue, SessionState, queue_of, with_queue, queue_has_buffers, has_buffers, is_streaming, adjusted_for, with_set_format}
@@ -136,9 +137,19 @@ streamoff_row s t = record {
   next = with_queue s t (stopped_queue (queue_of s t));
 }
 
--- a call that the device doesn't have yet is refused
-abbrev pub unbuilt_row : SessionState → IoctlRow
-unbuilt_row s = row ((true, Eopnotsupp) ∷ []) [] s
+-- Which handle wants events is the guest's own to keep: the device sends its event with each good
+-- frame, and says here which events there are. Source: Linux V4L2, struct v4l2_event_subscription.
+unfoldable pub subscribe_row : SessionState → ℕ → IoctlRow
+subscribe_row s e =
+    row
+    ((not (has_events s.model) || not (e == EVENT_FRAME_SYNC), Einval) ∷ [])
+    (subscription_bytes (subscription_request e)) s
+
+unfoldable pub unsubscribe_row : SessionState → ℕ → IoctlRow
+unsubscribe_row s e =
+    row
+    ((not (has_events s.model) || not (e == EVENT_ALL || e == EVENT_FRAME_SYNC), Einval) ∷ [])
+    (subscription_bytes (subscription_request e)) s
 
 -- the code of a format at a place of a payload
 abbrev pub code_at : ℕ → List ℕ → FourCc
@@ -149,8 +160,8 @@ code_at at payload = record { 0 = number_at at payload }
 -- 4; of a v4l2_format the type at 0, the width at 8, the height at 12 and the code at 16; of a
 -- v4l2_input the index at 0; of a v4l2_requestbuffers the count at 0, the type at 4 and the memory
 -- kind at 8; of a v4l2_buffer that is asked for the index at 0 and the type at 4, and of one that
--- is queued all fields (`buffer_in`). S_INPUT carries the index alone, and STREAMON and STREAMOFF
--- the type.
+-- is queued all fields (`buffer_in`); of a v4l2_event_subscription the type at 0. S_INPUT carries
+-- the index alone, and STREAMON and STREAMOFF the type.
 abbrev pub ioctl_row : SessionState → IoctlCode → List ℕ → List Held → IoctlRow
 ioctl_row s QueryCap p held = querycap_row s
 ioctl_row s EnumFmt p held = enumfmt_row s (number_at 4 p) (number_at 0 p)
@@ -167,7 +178,8 @@ ioctl_row s QueryBuf p held = querybuf_row s (number_at 4 p) (number_at 0 p)
 ioctl_row s QBuf p held = qbuf_row s (buffer_in p) held
 ioctl_row s StreamOn p held = streamon_row s (number_at 0 p)
 ioctl_row s StreamOff p held = streamoff_row s (number_at 0 p)
-ioctl_row s code p held = unbuilt_row s
+ioctl_row s SubscribeEvent p held = subscribe_row s (number_at 0 p)
+ioctl_row s UnsubscribeEvent p held = unsubscribe_row s (number_at 0 p)
 
 -- ---- the memories of a call
 

@@ -9,7 +9,7 @@ use crate::Session;
 use crate::requests::{fmtdesc_in, format_in, input_in, number_in};
 use v4l_const::{Errno, FourCc, IoctlCode};
 use vm_frame::Held;
-use vm_wire::{Payload, buffer_in, reqbufs_in};
+use vm_wire::{Payload, buffer_in, reqbufs_in, subscription_in};
 
 impl Session {
     /// Whether the call with this code and request is a stopping one that isn't refused at once:
@@ -46,8 +46,7 @@ impl Session {
     ///
     /// # Errors
     /// The first refusal of the call that applies, or `ENOMEM` where none does and the memory for
-    /// fresh frames can't be had. A refused call changes nothing. The calls that subscribe to
-    /// events aren't there yet and are refused with `EOPNOTSUPP`.
+    /// fresh frames can't be had. A refused call changes nothing.
     ///
     /// Source: own, after the Linux V4L2 interface.
     pub fn ioctl(
@@ -157,11 +156,10 @@ impl Session {
                 self.querybuf(asked.kind, asked.index)
             }
             IoctlCode::StreamOn => self.streamon(number_in(request)),
-            IoctlCode::ReqBufs
-            | IoctlCode::QBuf
-            | IoctlCode::StreamOff
-            | IoctlCode::SubscribeEvent
-            | IoctlCode::UnsubscribeEvent => Err(Errno::Eopnotsupp),
+            IoctlCode::SubscribeEvent => self.subscribe(subscription_in(request).kind),
+            IoctlCode::UnsubscribeEvent => self.unsubscribe(subscription_in(request).kind),
+            // These have to do with memories.
+            IoctlCode::ReqBufs | IoctlCode::QBuf | IoctlCode::StreamOff => Err(Errno::Eopnotsupp),
         }
     }
 }

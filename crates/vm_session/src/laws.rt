@@ -3,15 +3,15 @@
 ghost use Rattle.std.specs.Prelude.{◌≡◌, ◌<◌, ◌^◌, Bool, ℕ, Ok, List, length};
 ghost use Rattle.v4l_const.specs.declared.four_cc.FourCc.{FourCc};
 ghost use Rattle.v4l_const.specs.declared.ioctl_code.IoctlCode.{IoctlCode};
-ghost use Rattle.v4l_layout.specs.Records.{fmtdesc_bytes, format_bytes, input_bytes, request_bytes, buffer_bytes};
+ghost use Rattle.v4l_layout.specs.Records.{fmtdesc_bytes, format_bytes, input_bytes, request_bytes, buffer_bytes, subscription_bytes};
 ghost use Rattle.vm_frame.specs.declared.mem.Held.{Held};
-ghost use Rattle.vm_wire.specs.Buffers.{reqbufs_request, querybuf_request, qbuf_request, IsQueuedBuffer};
+ghost use Rattle.vm_wire.specs.Buffers.{reqbufs_request, querybuf_request, qbuf_request, subscription_request, IsQueuedBuffer};
 ghost use Rattle.vm_wire.specs.declared.buffers.QueuedBuffer.{QueuedBuffer};
 ghost use Rattle.vm_wire.specs.Payload.{HasItsLength};
 ghost use Rattle.vm_wire.specs.Records.{fmt_desc_request, format_request, format_type_request, input_request};
 ghost use Rattle.vm_wire.specs.Wire.{le};
 ghost use Rattle.vm_session.specs.State.{SessionState};
-ghost use Rattle.vm_session.specs.Rows.{IoctlAnswer, ioctl_row, ioctl_outcome, enumfmt_row, gfmt_row, tryfmt_row, sfmt_row, enuminput_row, sinput_row, reqbufs_row, querybuf_row, qbuf_row, streamon_row, streamoff_row};
+ghost use Rattle.vm_session.specs.Rows.{IoctlAnswer, ioctl_row, ioctl_outcome, enumfmt_row, gfmt_row, tryfmt_row, sfmt_row, enuminput_row, sinput_row, reqbufs_row, querybuf_row, qbuf_row, streamon_row, streamoff_row, subscribe_row, unsubscribe_row};
 
 /// Each call does what its request asks for: what it reads from the bytes of the request are the
 /// request's words. QUERYCAP and G_INPUT have no words.
@@ -47,6 +47,12 @@ pub fn requests_are_read()
         ioctl_row s IoctlCode.StreamOn (le t) held ≡ streamon_row s t }
     ensures streamoff { (s : SessionState) (t : ℕ) (held : List Held) → t < 2 ^ 32 →
         ioctl_row s IoctlCode.StreamOff (le t) held ≡ streamoff_row s t }
+    ensures subscribe { (s : SessionState) (e : ℕ) (held : List Held) → e < 2 ^ 32 →
+        ioctl_row s IoctlCode.SubscribeEvent (subscription_bytes (subscription_request e)) held ≡
+        subscribe_row s e }
+    ensures unsubscribe { (s : SessionState) (e : ℕ) (held : List Held) → e < 2 ^ 32 →
+        ioctl_row s IoctlCode.UnsubscribeEvent (subscription_bytes (subscription_request e)) held ≡
+        unsubscribe_row s e }
 {}
 
 /// The answer to a call has as many bytes as its request.

@@ -21,6 +21,7 @@ mod returns;
 mod running;
 mod session;
 mod streaming;
+mod subscriptions;
 mod unsent;
 
 pub use laws::{answers_have_the_size_of_requests, requests_are_read};

@@ -1,9 +1,8 @@
 -- The ioctls with which calls cross.
 use Rattle.std.proofs.Common.{◌≡◌, ℕ, Bool, true, false, List, [], ◌∷◌, Option, Some, None, Ok, refl, sym, ap, ◌∙◌, subst, if◌then◌else◌}
-use Rattle.std.proofs.lemmas.Bool.{true≢false}
 use Rattle.v4l_const.specs.declared.errno.Errno.{Errno}
 use Rattle.v4l_const.specs.declared.ioctl_code.IoctlCode.{IoctlCode}
-use Rattle.v4l_const.specs.declared.ioctl_code.IoctlCode.TheVariants.{QueryCap as QueryCapCode, EnumFmt as EnumFmtCode, GFmt as GFmtCode, SFmt as SFmtCode, TryFmt as TryFmtCode, EnumInput as EnumInputCode, GInput as GInputCode, SInput as SInputCode, ReqBufs as ReqBufsCode, QueryBuf as QueryBufCode, QBuf as QBufCode, StreamOn as StreamOnCode, StreamOff as StreamOffCode}
+use Rattle.v4l_const.specs.declared.ioctl_code.IoctlCode.TheVariants.{QueryCap as QueryCapCode, EnumFmt as EnumFmtCode, GFmt as GFmtCode, SFmt as SFmtCode, TryFmt as TryFmtCode, EnumInput as EnumInputCode, GInput as GInputCode, SInput as SInputCode, ReqBufs as ReqBufsCode, QueryBuf as QueryBufCode, QBuf as QBufCode, StreamOn as StreamOnCode, StreamOff as StreamOffCode, SubscribeEvent as SubscribeCode, UnsubscribeEvent as UnsubscribeCode}
 use Rattle.v4l_rules.specs.Refusals.{first_refusal}
 use Rattle.vm_frame.specs.declared.mem.Held.{Held}
 use Rattle.vm_wire.specs.Buffers.{qbuf_request}
@@ -21,12 +20,12 @@ use Rattle.vm_exchange.specs.declared.way.Way.TheVariants.{Crosses, AnsweredHere
 use Rattle.vm_exchange.specs.Exchange.{buffer_queued, asks, from_open, unless_by, qbuf_crossing, way_of}
 use Rattle.vm_exchange.specs.Range.{AreWords}
 use Rattle.vm_session.specs.State.{SessionState, is_quiet}
-use Rattle.vm_session.specs.Rows.{IoctlRow, IoctlAnswer, ioctl_row, outcome_of, querycap_row, enumfmt_row, gfmt_row, tryfmt_row, sfmt_row, enuminput_row, ginput_row, sinput_row, reqbufs_row, querybuf_row, qbuf_row, streamon_row, streamoff_row}
+use Rattle.vm_session.specs.Rows.{IoctlRow, IoctlAnswer, ioctl_row, outcome_of, querycap_row, enumfmt_row, gfmt_row, tryfmt_row, sfmt_row, enuminput_row, ginput_row, sinput_row, reqbufs_row, querybuf_row, qbuf_row, streamon_row, streamoff_row, subscribe_row, unsubscribe_row}
 use Rattle.vm_session.specs.Sound.{IsSound}
-use Rattle.vm_session.proofs.ReadBackLemmas.{enumfmt_reads, gfmt_reads, tryfmt_reads, sfmt_reads, enuminput_reads, sinput_reads, reqbufs_call_reads, querybuf_call_reads, qbuf_call_reads, streamon_reads, streamoff_reads}
+use Rattle.vm_session.proofs.ReadBackLemmas.{enumfmt_reads, gfmt_reads, tryfmt_reads, sfmt_reads, enuminput_reads, sinput_reads, reqbufs_call_reads, querybuf_call_reads, qbuf_call_reads, streamon_reads, streamoff_reads, subscribe_reads, unsubscribe_reads}
 use Rattle.vm_stands.specs.Stands.{Stands}
-use Rattle.vm_stands.specs.Laws.{AnswersAs, Along, is_subscription, WayAnswers}
-use Rattle.vm_stands.proofs.PlainLemmas.{querycap_served, enumfmt_served, gfmt_served, tryfmt_served, sfmt_served, enuminput_served, ginput_served, sinput_served, querybuf_served, streamon_served}
+use Rattle.vm_stands.specs.Laws.{AnswersAs, Along, WayAnswers}
+use Rattle.vm_stands.proofs.PlainLemmas.{querycap_served, enumfmt_served, gfmt_served, tryfmt_served, sfmt_served, enuminput_served, ginput_served, sinput_served, querybuf_served, streamon_served, subscribe_served, unsubscribe_served}
 use Rattle.vm_stands.proofs.QBufLemmas.{qbuf_served}
 use Rattle.vm_stands.proofs.CloseLemmas.{streamoff_served}
 use Rattle.vm_stands.proofs.ReqBufsLemmas.{reqbufs_served}
@@ -75,62 +74,66 @@ qbuf_answered frames session line s memory held t i used ts user stands sound re
     by_refusal (Some e) is = tt
 
 pub ioctls_are_answered : (frames : List ℕ) (session : SessionState) (line : ℕ) (s : LocalState) (call : Call) (memory : Bool) (held : List Held) →
-    Stands frames session s → IsSound session → IsReached s → AreWords call → Along s call held → is_subscription call ≡ false →
+    Stands frames session s → IsSound session → IsReached s → AreWords call → Along s call held →
     (is_stopping call ≡ true → (is_quiet session ≡ true) × (s.owed ≡ [])) →
     WayAnswers frames session line s call memory held (way_of session.id s call)
-ioctls_are_answered frames session line s (OpenHandle nonblock) memory held stands sound reached words along known quiet = tt
-ioctls_are_answered frames session line s CloseHandle memory held stands sound reached words along known quiet =
+ioctls_are_answered frames session line s (OpenHandle nonblock) memory held stands sound reached words along quiet = tt
+ioctls_are_answered frames session line s CloseHandle memory held stands sound reached words along quiet =
     either frames session line s CloseHandle memory held _ AnsweredHere tt tt s.opened
-ioctls_are_answered frames session line s QueryCap memory held stands sound reached words along known quiet =
+ioctls_are_answered frames session line s QueryCap memory held stands sound reached words along quiet =
     asked frames session line s QueryCap memory held QueryCapCode _ (querycap_row session) stands refl (querycap_served frames session line s memory stands sound reached)
-ioctls_are_answered frames session line s (EnumFmt t i) memory held stands sound reached words along known quiet =
+ioctls_are_answered frames session line s (EnumFmt t i) memory held stands sound reached words along quiet =
     asked frames session line s (EnumFmt t i) memory held EnumFmtCode _ (enumfmt_row session t i) stands (enumfmt_reads session t i held words.0 words.1)
     (enumfmt_served t i frames session line s memory stands sound reached)
-ioctls_are_answered frames session line s (GFmt t) memory held stands sound reached words along known quiet =
+ioctls_are_answered frames session line s (GFmt t) memory held stands sound reached words along quiet =
     asked frames session line s (GFmt t) memory held GFmtCode _ (gfmt_row session t) stands (gfmt_reads session t held words) (gfmt_served t frames session line s memory stands sound reached)
-ioctls_are_answered frames session line s (TryFmt t f w h) memory held stands sound reached words along known quiet =
+ioctls_are_answered frames session line s (TryFmt t f w h) memory held stands sound reached words along quiet =
     asked frames session line s (TryFmt t f w h) memory held TryFmtCode _ (tryfmt_row session t f w h) stands
     (tryfmt_reads session t f w h held words.0 words.1 words.2 words.3)
     (tryfmt_served t f w h frames session line s memory stands sound reached)
-ioctls_are_answered frames session line s (SFmt t f w h) memory held stands sound reached words along known quiet =
+ioctls_are_answered frames session line s (SFmt t f w h) memory held stands sound reached words along quiet =
     asked frames session line s (SFmt t f w h) memory held SFmtCode _ (sfmt_row session t f w h) stands
     (sfmt_reads session t f w h held words.0 words.1 words.2 words.3)
     (sfmt_served t f w h frames session line s memory stands sound reached)
-ioctls_are_answered frames session line s (EnumInput i) memory held stands sound reached words along known quiet =
+ioctls_are_answered frames session line s (EnumInput i) memory held stands sound reached words along quiet =
     asked frames session line s (EnumInput i) memory held EnumInputCode _ (enuminput_row session i) stands (enuminput_reads session i held words)
     (enuminput_served i frames session line s memory stands sound reached)
-ioctls_are_answered frames session line s GInput memory held stands sound reached words along known quiet =
+ioctls_are_answered frames session line s GInput memory held stands sound reached words along quiet =
     asked frames session line s GInput memory held GInputCode _ (ginput_row session) stands refl (ginput_served frames session line s memory stands sound reached)
-ioctls_are_answered frames session line s (SInput i) memory held stands sound reached words along known quiet =
+ioctls_are_answered frames session line s (SInput i) memory held stands sound reached words along quiet =
     asked frames session line s (SInput i) memory held SInputCode _ (sinput_row session i) stands (sinput_reads session i held words)
     (sinput_served i frames session line s memory stands sound reached)
-ioctls_are_answered frames session line s (ReqBufs t m n) memory held stands sound reached words along known quiet =
+ioctls_are_answered frames session line s (ReqBufs t m n) memory held stands sound reached words along quiet =
     asked frames session line s (ReqBufs t m n) memory held ReqBufsCode _ (reqbufs_row session t m n) stands
     (reqbufs_call_reads session t m n held words.0 words.1 words.2)
     (reqbufs_served t m n frames session line s memory stands sound reached (quiet refl).0 (quiet refl).1)
-ioctls_are_answered frames session line s (QueryBuf t i) memory held stands sound reached words along known quiet =
+ioctls_are_answered frames session line s (QueryBuf t i) memory held stands sound reached words along quiet =
     asked frames session line s (QueryBuf t i) memory held QueryBufCode _ (querybuf_row session t i) stands (querybuf_call_reads session t i held words.0 words.1)
     (querybuf_served t i frames session line s memory stands sound reached)
-ioctls_are_answered frames session line s (UAlloc u len off) memory held stands sound reached words along known quiet = tt
-ioctls_are_answered frames session line s (QBuf t i user used ts) memory held stands sound reached words along known quiet =
+ioctls_are_answered frames session line s (UAlloc u len off) memory held stands sound reached words along quiet = tt
+ioctls_are_answered frames session line s (QBuf t i user used ts) memory held stands sound reached words along quiet =
     qbuf_answered frames session line s memory held t i used ts user stands sound reached along
-ioctls_are_answered frames session line s (StreamOn t) memory held stands sound reached words along known quiet =
+ioctls_are_answered frames session line s (StreamOn t) memory held stands sound reached words along quiet =
     asked frames session line s (StreamOn t) memory held StreamOnCode _ (streamon_row session t) stands (streamon_reads session t held words)
     (streamon_served t frames session line s memory stands sound reached)
-ioctls_are_answered frames session line s (StreamOff t) memory held stands sound reached words along known quiet =
+ioctls_are_answered frames session line s (StreamOff t) memory held stands sound reached words along quiet =
     asked frames session line s (StreamOff t) memory held StreamOffCode _ (streamoff_row session t) stands (streamoff_reads session t held words)
     (streamoff_served t frames session line s memory stands sound reached (quiet refl).0 (quiet refl).1)
-ioctls_are_answered frames session line s (DqBuf t) memory held stands sound reached words along known quiet =
+ioctls_are_answered frames session line s (DqBuf t) memory held stands sound reached words along quiet =
     unless_none frames session line s (DqBuf t) memory held _ (either frames session line s (DqBuf t) memory held Waits AnsweredHere tt tt (row_of s 0 0 (DqBuf t)).waits)
     (first_refusal (row_of s 0 0 (DqBuf t)).refusals)
-ioctls_are_answered frames session line s (Mmap m t i ro) memory held stands sound reached words along known quiet =
+ioctls_are_answered frames session line s (Mmap m t i ro) memory held stands sound reached words along quiet =
     unless_none frames session line s (Mmap m t i ro) memory held _ tt (first_refusal (row_of s 0 0 (Mmap m t i ro)).refusals)
-ioctls_are_answered frames session line s (Munmap m) memory held stands sound reached words along known quiet =
+ioctls_are_answered frames session line s (Munmap m) memory held stands sound reached words along quiet =
     unless_none frames session line s (Munmap m) memory held _ tt (first_refusal (row_of s 0 0 (Munmap m)).refusals)
-ioctls_are_answered frames session line s (Peek m off len) memory held stands sound reached words along known quiet = tt
-ioctls_are_answered frames session line s (Hash m) memory held stands sound reached words along known quiet = tt
-ioctls_are_answered frames session line s (Poke m off bytes) memory held stands sound reached words along known quiet = tt
-ioctls_are_answered frames session line s (Fill m seed) memory held stands sound reached words along known quiet = tt
-ioctls_are_answered frames session line s (Subscribe e) memory held stands sound reached words along known quiet = absurd (true≢false known)
-ioctls_are_answered frames session line s (Unsubscribe e) memory held stands sound reached words along known quiet = absurd (true≢false known)
-ioctls_are_answered frames session line s DqEvent memory held stands sound reached words along known quiet = tt
+ioctls_are_answered frames session line s (Peek m off len) memory held stands sound reached words along quiet = tt
+ioctls_are_answered frames session line s (Hash m) memory held stands sound reached words along quiet = tt
+ioctls_are_answered frames session line s (Poke m off bytes) memory held stands sound reached words along quiet = tt
+ioctls_are_answered frames session line s (Fill m seed) memory held stands sound reached words along quiet = tt
+ioctls_are_answered frames session line s (Subscribe e) memory held stands sound reached words along quiet =
+    asked frames session line s (Subscribe e) memory held SubscribeCode _ (subscribe_row session e) stands (subscribe_reads session e held words)
+    (subscribe_served e frames session line s memory stands sound reached)
+ioctls_are_answered frames session line s (Unsubscribe e) memory held stands sound reached words along quiet =
+    asked frames session line s (Unsubscribe e) memory held UnsubscribeCode _ (unsubscribe_row session e) stands (unsubscribe_reads session e held words)
+    (unsubscribe_served e frames session line s memory stands sound reached)
+ioctls_are_answered frames session line s DqEvent memory held stands sound reached words along quiet = tt

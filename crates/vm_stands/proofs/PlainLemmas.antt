@@ -1,18 +1,18 @@
 -- The calls that stop nothing, but for that which queues a buffer.
-use Rattle.std.proofs.Common.{◌≡◌, ℕ, ◌<◌, nat_lt, Bool, true, false, not, List, [], ◌∷◌, length, get_or, refl, sym, ap, ◌∙◌, subst, arith}
+use Rattle.std.proofs.Common.{◌≡◌, ℕ, ◌<◌, ◌==◌, ◌||◌, nat_lt, Bool, true, false, not, List, [], ◌∷◌, length, get_or, refl, sym, ap, ◌∙◌, subst, arith}
 use Rattle.std.proofs.lemmas.Bool.{not-false, ltb-true}
 use Rattle.v4l_const.specs.declared.errno.Errno.TheVariants.{Ebadf, Einval, Ebusy}
 use Rattle.v4l_const.specs.declared.four_cc.FourCc.{FourCc}
-use Rattle.v4l_const.specs.Model.{queues as types_of}
+use Rattle.v4l_const.specs.Model.{queues as types_of, has_events}
 use Rattle.v4l_format.specs.FormatRow.{formats_of, grey}
 use Rattle.v4l_layout.specs.Records.{capability_bytes, fmtdesc_bytes, format_bytes, buffer_bytes}
 use Rattle.v4l_rules.specs.Queues.{place_in, has_type}
 use Rattle.v4l_rules.specs.Refusals.{first_refusal, no_type, no_inputs, no_input}
 use Rattle.vm_local.specs.declared.buffer.Buffer.{Buffer}
-use Rattle.vm_local.specs.declared.call.Call.TheVariants.{QueryCap, EnumFmt, GFmt, TryFmt, SFmt, EnumInput, GInput, SInput, QueryBuf, StreamOn}
+use Rattle.vm_local.specs.declared.call.Call.TheVariants.{QueryCap, EnumFmt, GFmt, TryFmt, SFmt, EnumInput, GInput, SInput, QueryBuf, StreamOn, Subscribe, Unsubscribe}
 use Rattle.vm_local.specs.State.{LocalState, queue_of, with_queue, buffer_of}
 use Rattle.vm_local.specs.Queue.{is_empty, has_buffers, is_streaming, adjusted_for, with_set_format, started}
-use Rattle.vm_local.specs.Calls.{querycap_row, enumfmt_row, gfmt_row, tryfmt_row, sfmt_row, enuminput_row, ginput_row, sinput_row, querybuf_row, streamon_row}
+use Rattle.vm_local.specs.Calls.{querycap_row, enumfmt_row, gfmt_row, tryfmt_row, sfmt_row, enuminput_row, ginput_row, sinput_row, querybuf_row, streamon_row, subscribe_row, unsubscribe_row}
 use Rattle.vm_local.proofs.StepLemmas.{passes}
 use Rattle.vm_commute.proofs.ReachedLemmas.{many_queues}
 use Rattle.vm_home.specs.Reached.{IsReached}
@@ -30,6 +30,7 @@ use Rattle.vm_stands.specs.Laws.{IsServed}
 use Rattle.vm_stands.proofs.AlikeLemmas.{many_alike, some_alike, has_alike, streams_alike, adjusted_alike, length_alike}
 use Rattle.vm_stands.proofs.AnswerLemmas.{IsAlike, by_row, nothing_back, no_frames}
 use Rattle.vm_stands.proofs.FormatLemmas.{set_stands, started_stands, input_stands}
+use Rattle.vm_stands.proofs.SeenLemmas.{seen_stands}
 
 querycap_alike : (frames : List ℕ) (session : SessionState) (s : LocalState) → Stands frames session s → IsAlike frames session s QueryCap (querycap_row s) (S.querycap_row session)
 unfolding querycap_row S.querycap_row
@@ -267,3 +268,50 @@ streamon_alike frames session s t stands reached =
 pub streamon_served : (t : ℕ) → IsServed (StreamOn t) (λ session. S.streamon_row session t)
 streamon_served t frames session line s memory stands sound reached =
     by_row frames session line s (StreamOn t) (streamon_row s t) (S.streamon_row session t) memory (λ reply. refl) (streamon_alike frames session s t stands reached)
+
+-- ---- events, of which the handle alone keeps what it wants
+
+subscribed_stands : (frames : List ℕ) (session : SessionState) (s : LocalState) (b : Bool) → Stands frames session s → Stands frames session (record s { subscribed = b })
+subscribed_stands frames session s b stands = seen_stands frames session s (record s { subscribed = b }) refl stands
+
+subscribe_alike : (frames : List ℕ) (session : SessionState) (s : LocalState) (e : ℕ) → Stands frames session s →
+    IsAlike frames session s (Subscribe e) (subscribe_row s e) (S.subscribe_row session e)
+unfolding subscribe_row S.subscribe_row
+subscribe_alike frames session s e stands =
+    let m : s.model ≡ session.model = sym stands.model in
+    record {
+      refusals = λ j. first_refusal ((not (stands.opened j), Ebadf) ∷ (not (has_events (m j)) || not (e == 4), Einval) ∷ []);
+      lacks = refl;
+      waits = refl;
+      told = refl;
+      done = λ pass. record {
+        payload = refl;
+        back = nothing_back s (record s { subscribed = true }) (Subscribe e) refl refl;
+        stands = no_frames frames session (record s { subscribed = true }) (subscribed_stands frames session s true stands);
+      };
+    }
+
+pub subscribe_served : (e : ℕ) → IsServed (Subscribe e) (λ session. S.subscribe_row session e)
+subscribe_served e frames session line s memory stands sound reached =
+    by_row frames session line s (Subscribe e) (subscribe_row s e) (S.subscribe_row session e) memory (λ reply. refl) (subscribe_alike frames session s e stands)
+
+unsubscribe_alike : (frames : List ℕ) (session : SessionState) (s : LocalState) (e : ℕ) → Stands frames session s →
+    IsAlike frames session s (Unsubscribe e) (unsubscribe_row s e) (S.unsubscribe_row session e)
+unfolding unsubscribe_row S.unsubscribe_row
+unsubscribe_alike frames session s e stands =
+    let m : s.model ≡ session.model = sym stands.model in
+    record {
+      refusals = λ j. first_refusal ((not (stands.opened j), Ebadf) ∷ (not (has_events (m j)) || not (e == 0 || e == 4), Einval) ∷ []);
+      lacks = refl;
+      waits = refl;
+      told = refl;
+      done = λ pass. record {
+        payload = refl;
+        back = nothing_back s (record s { subscribed = false }) (Unsubscribe e) refl refl;
+        stands = no_frames frames session (record s { subscribed = false }) (subscribed_stands frames session s false stands);
+      };
+    }
+
+pub unsubscribe_served : (e : ℕ) → IsServed (Unsubscribe e) (λ session. S.unsubscribe_row session e)
+unsubscribe_served e frames session line s memory stands sound reached =
+    by_row frames session line s (Unsubscribe e) (unsubscribe_row s e) (S.unsubscribe_row session e) memory (λ reply. refl) (unsubscribe_alike frames session s e stands)

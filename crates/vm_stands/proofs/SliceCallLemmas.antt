@@ -3,14 +3,14 @@ use Rattle.std.proofs.Common.{◌≡◌, ℕ, Bool, true, false, List, [], ◌++
 use Rattle.std.proofs.lemmas.Bool.{false≢true}
 use Rattle.v4l_const.specs.declared.errno.Errno.{Errno}
 use Rattle.v4l_const.specs.declared.ioctl_code.IoctlCode.{IoctlCode}
-use Rattle.v4l_const.specs.declared.ioctl_code.IoctlCode.TheVariants.{QueryCap as QueryCapCode, EnumFmt as EnumFmtCode, GFmt as GFmtCode, SFmt as SFmtCode, TryFmt as TryFmtCode, EnumInput as EnumInputCode, GInput as GInputCode, SInput as SInputCode, ReqBufs as ReqBufsCode, QueryBuf as QueryBufCode, QBuf as QBufCode, StreamOn as StreamOnCode, StreamOff as StreamOffCode}
+use Rattle.v4l_const.specs.declared.ioctl_code.IoctlCode.TheVariants.{QueryCap as QueryCapCode, EnumFmt as EnumFmtCode, GFmt as GFmtCode, SFmt as SFmtCode, TryFmt as TryFmtCode, EnumInput as EnumInputCode, GInput as GInputCode, SInput as SInputCode, ReqBufs as ReqBufsCode, QueryBuf as QueryBufCode, QBuf as QBufCode, StreamOn as StreamOnCode, StreamOff as StreamOffCode, SubscribeEvent as SubscribeCode, UnsubscribeEvent as UnsubscribeCode}
 use Rattle.v4l_rules.specs.Refusals.{first_refusal}
 use Rattle.vm_frame.specs.declared.mem.Held.{Held}
 use Rattle.vm_job.specs.Job.{JobParts}
 use Rattle.vm_wire.specs.declared.command.Command.{Command}
 use Rattle.vm_wire.specs.declared.command.Command.TheVariants.{Ioctl}
 use Rattle.vm_local.specs.declared.call.Call.{Call}
-use Rattle.vm_local.specs.declared.call.Call.TheVariants.{OpenHandle, QBuf, Subscribe, Unsubscribe}
+use Rattle.vm_local.specs.declared.call.Call.TheVariants.{OpenHandle, QBuf}
 use Rattle.vm_local.specs.declared.reply.Reply.TheVariants.{Refused}
 use Rattle.vm_local.specs.State.{LocalState}
 use Rattle.vm_local.specs.Calls.{row_of}
@@ -23,10 +23,10 @@ use Rattle.vm_exchange.specs.Exchange.{unless_by, qbuf_crossing, way_of}
 use Rattle.vm_exchange.specs.Range.{AreWords}
 use Rattle.vm_session.specs.declared.unsent.Unsent.{Unsent}
 use Rattle.vm_session.specs.State.{SessionState, is_quiet}
-use Rattle.vm_session.specs.Rows.{IoctlRow, IoctlAnswer, ioctl_row, ioctl_outcome, outcome_of, refused_or, refusal_of, querycap_row, enumfmt_row, gfmt_row, tryfmt_row, sfmt_row, enuminput_row, ginput_row, sinput_row, reqbufs_row, querybuf_row, qbuf_row, streamon_row, streamoff_row}
+use Rattle.vm_session.specs.Rows.{IoctlRow, IoctlAnswer, ioctl_row, ioctl_outcome, outcome_of, refused_or, refusal_of, querycap_row, enumfmt_row, gfmt_row, tryfmt_row, sfmt_row, enuminput_row, ginput_row, sinput_row, reqbufs_row, querybuf_row, qbuf_row, streamon_row, streamoff_row, subscribe_row, unsubscribe_row}
 use Rattle.vm_session.specs.Sound.{IsSound}
 use Rattle.vm_stands.specs.Flight.{LeadAll}
-use Rattle.vm_stands.specs.Laws.{AnswersAs, frames_by, Along, is_subscription, WayAnswers}
+use Rattle.vm_stands.specs.Laws.{AnswersAs, frames_by, Along, WayAnswers}
 use Rattle.vm_stands.specs.Slice.{IsSlice, GoesOn, Goes, Stops}
 use Rattle.vm_stands.proofs.IoctlLemmas.{ioctls_are_answered}
 use Rattle.vm_stands.proofs.SliceLemmas.{slice_executes, slice_refuses, slice_stops, all_reached}
@@ -40,7 +40,7 @@ record Runs (session next : SessionState) : Type 0 where
   unsent : next.unsent ≡ session.unsent
 
 row_runs : (s : SessionState) (code : IoctlCode) (p : List ℕ) (held : List Held) → Runs s (ioctl_row s code p held).next
-unfolding querycap_row enumfmt_row gfmt_row tryfmt_row sfmt_row enuminput_row ginput_row sinput_row reqbufs_row querybuf_row qbuf_row streamon_row streamoff_row
+unfolding querycap_row enumfmt_row gfmt_row tryfmt_row sfmt_row enuminput_row ginput_row sinput_row reqbufs_row querybuf_row qbuf_row streamon_row streamoff_row subscribe_row unsubscribe_row
 row_runs s QueryCapCode p held = record { id = refl; unsent = refl }
 row_runs s EnumFmtCode p held = record { id = refl; unsent = refl }
 row_runs s GFmtCode p held = record { id = refl; unsent = refl }
@@ -54,7 +54,8 @@ row_runs s QueryBufCode p held = record { id = refl; unsent = refl }
 row_runs s QBufCode p held = record { id = refl; unsent = refl }
 row_runs s StreamOnCode p held = record { id = refl; unsent = refl }
 row_runs s StreamOffCode p held = record { id = refl; unsent = refl }
-row_runs s code p held = record { id = refl; unsent = refl }
+row_runs s SubscribeCode p held = record { id = refl; unsent = refl }
+row_runs s UnsubscribeCode p held = record { id = refl; unsent = refl }
 
 abbrev is_done : Result IoctlAnswer Errno → Bool
 is_done (Ok a) = true
@@ -120,16 +121,16 @@ no_open id r call is = refl
 
 pub slice_answers : (frames : List ℕ) (session : SessionState) (job : Option JobParts) (earlier : List Unsent) (line : ℕ) (call : Call) (memory : Bool)
     (held : List Held) (code : IoctlCode) (payload : List ℕ) (user : Option UserPlace) (r s : LocalState) →
-    IsSlice frames session job earlier None r s → may_cross call ≡ true → is_stopping call ≡ false → is_subscription call ≡ false → AreWords call →
+    IsSlice frames session job earlier None r s → may_cross call ≡ true → is_stopping call ≡ false → AreWords call →
     Along r call held → way_of session.id r call ≡ Crosses (record { command = Ioctl session.id code payload; user = user }) →
     ((a : IoctlAnswer) → ioctl_outcome memory session code payload held ≡ Ok a → IsSound a.next) →
     Goes frames session job earlier line call r s (ioctl_outcome memory session code payload held)
-slice_answers frames session job earlier line call memory held code payload user r s slice may never known words along way sound =
+slice_answers frames session job earlier line call memory held code payload user r s slice may never words along way sound =
     let es : List Unsent = earlier ++ session.unsent in
     let there : IsReached s = all_reached session.id r s es slice.reached slice.leads in
     let ahead : Along s call held = along_ahead session.id r s call held es slice.reached slice.leads (ap crosses way) along in
     let answers : WayAnswers frames session line s call memory held (way_of session.id s call) =
-    ioctls_are_answered frames session line s call memory held slice.stands slice.sound there words ahead known (λ stops. absurd (false≢true (sym never ∙ stops))) in
+    ioctls_are_answered frames session line s call memory held slice.stands slice.sound there words ahead (λ stops. absurd (false≢true (sym never ∙ stops))) in
     let both : _ = subst (λ w. WayAnswers frames session line s call memory held w) (ways_stay session.id r s call es slice.reached slice.leads may ∙ way) answers in
     slice_answered frames session job earlier line call r s (ioctl_outcome memory session code payload held) slice may (no_open session.id r call (ap is_ioctl_way way)) never
     (λ a is.
@@ -142,11 +143,6 @@ slice_answers frames session job earlier line call memory held code payload user
 no_along : (s : LocalState) (call : Call) → is_stopping call ≡ true → Along s call []
 no_along s (QBuf t i user used ts) stops = absurd (false≢true stops)
 no_along s call stops = refl
-
-no_subscription : (call : Call) → is_stopping call ≡ true → is_subscription call ≡ false
-no_subscription (Subscribe e) stops = absurd (false≢true stops)
-no_subscription (Unsubscribe e) stops = absurd (false≢true stops)
-no_subscription call stops = refl
 
 stop_answered : (frames : List ℕ) (session : SessionState) (earlier : List Unsent) (line : ℕ) (call : Call) (r s : LocalState) (o : Result IoctlAnswer Errno) →
     IsSlice frames session None earlier None r s → is_stopping call ≡ true →
@@ -170,7 +166,7 @@ slice_stops_for frames session earlier line call memory code payload user r s sl
     let es : List Unsent = earlier ++ session.unsent in
     let there : IsReached s = all_reached session.id r s es slice.reached slice.leads in
     let answers : WayAnswers frames session line s call memory [] (way_of session.id s call) =
-    ioctls_are_answered frames session line s call memory [] slice.stands slice.sound there words (no_along s call stops) (no_subscription call stops) (λ _. (quiet, slice.owed)) in
+    ioctls_are_answered frames session line s call memory [] slice.stands slice.sound there words (no_along s call stops) (λ _. (quiet, slice.owed)) in
     let both : _ = subst (λ w. WayAnswers frames session line s call memory [] w) (ways_stay session.id r s call es slice.reached slice.leads (stopping_crosses call stops) ∙ way) answers in
     stop_answered frames session earlier line call r s (ioctl_outcome memory session code payload []) slice stops
     (λ a is.

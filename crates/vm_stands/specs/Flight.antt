@@ -1,6 +1,6 @@
 -- What the messages of the device stand for: the steps that it made of its own, which the handle's
 -- log has once they are delivered.
-use Rattle.std.specs.Prelude.{ℕ, ◌≡◌, ◌==◌, ◌+◌, Bool, false, List, [], ◌∷◌, ◌++◌, Option, Some, None, if◌then◌else◌}
+use Rattle.std.specs.Prelude.{ℕ, ◌≡◌, Bool, false, List, [], ◌∷◌, ◌++◌, Option, Some, None, if◌then◌else◌}
 use Rattle.v4l_const.specs.declared.model.Model.{Model}
 use Rattle.v4l_const.specs.declared.numbers.TheConstants.{MEMORY_MMAP}
 use Rattle.v4l_layout.specs.declared.buffer_rec.BufferRec.{BufferRec}

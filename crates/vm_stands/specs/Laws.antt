@@ -271,7 +271,7 @@ Along s (QBuf t i user used ts) held =
     × IsQueuedBuffer (buffer_queued s t i user used ts)
 Along s call held = held ≡ []
 
--- the calls that a session doesn't know yet
+-- the calls that say which events a handle wants
 abbrev pub is_subscription : Call → Bool
 is_subscription (Subscribe e) = true
 is_subscription (Unsubscribe e) = true
@@ -298,6 +298,5 @@ IoctlsAreAnswered =
     (frames : List ℕ) (session : SessionState) (line : ℕ) (s : LocalState) (call : Call)
     (memory : Bool) (held : List Held) →
     Stands frames session s → IsSound session → IsReached s → AreWords call → Along s call held →
-    is_subscription call ≡ false →
     (is_stopping call ≡ true → (is_quiet session ≡ true) × (s.owed ≡ [])) →
     WayAnswers frames session line s call memory held (way_of session.id s call)

@@ -252,8 +252,8 @@ SliceAnswers =
     (held : List Held) (code : IoctlCode) (payload : List ℕ) (user : Option UserPlace)
     (r s : LocalState) →
     IsSlice frames session job earlier None r s → may_cross call ≡ true → is_stopping call ≡ false →
-    is_subscription call ≡ false → AreWords call →
-    Along r call held → way_of session.id r call
+    AreWords call → Along r call held →
+    way_of session.id r call
     ≡ Crosses (record { command = Ioctl session.id code payload; user = user }) →
     ((a : IoctlAnswer) → ioctl_outcome memory session code payload held ≡ Ok a → IsSound a.next) →
     Goes frames session job earlier line call r s (ioctl_outcome memory session code payload held)

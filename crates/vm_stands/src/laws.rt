@@ -1,7 +1,7 @@
-ghost use Rattle.vm_local.specs.declared.call.Call.TheVariants.{QueryCap, EnumFmt, GFmt, TryFmt, SFmt, EnumInput, GInput, SInput, QueryBuf, StreamOn, StreamOff, ReqBufs};
+ghost use Rattle.vm_local.specs.declared.call.Call.TheVariants.{QueryCap, EnumFmt, GFmt, TryFmt, SFmt, EnumInput, GInput, SInput, QueryBuf, StreamOn, StreamOff, ReqBufs, Subscribe, Unsubscribe};
 ghost use Rattle.std.specs.Prelude.{ℕ};
 ghost use Rattle.v4l_const.specs.declared.four_cc.FourCc.{FourCc};
-ghost use Rattle.vm_session.specs.Rows.{querycap_row, enumfmt_row, gfmt_row, tryfmt_row, sfmt_row, enuminput_row, ginput_row, sinput_row, querybuf_row, streamon_row, streamoff_row, reqbufs_row};
+ghost use Rattle.vm_session.specs.Rows.{querycap_row, enumfmt_row, gfmt_row, tryfmt_row, sfmt_row, enuminput_row, ginput_row, sinput_row, querybuf_row, streamon_row, streamoff_row, reqbufs_row, subscribe_row, unsubscribe_row};
 ghost use Rattle.vm_stands.specs.Ahead.{MessagesJoin, MessagesJoinRefused, DeliveryKeeps, ExecutionMoves, ExecutionLeads, StoppingMoves, CollectionKeeps, RefusedCollectionKeeps, StoppedCollectionKeeps};
 ghost use Rattle.vm_stands.specs.Slice.{SliceCloses, SliceStaysApart, SliceOpens, SliceRefusesFor, SliceComes, SliceStopsFor, SliceAnswers, AlongStays, WaysStay, ResponsesStay, SliceIsAhead, SliceSends, SliceDelivers, SliceExecutes, SliceCollects, SliceStops, SliceRefuses, SliceCollectsRefused, SliceCollectsStopped, SliceBegins, SliceFinishes, SliceFinishesRefused, SliceHasOwnCalls};
 ghost use Rattle.vm_stands.specs.Laws.{IoctlsAreAnswered, MemoriesHaveLengths, MapsAlike, NamesKeep, OwnCallsKeep, GivingKeepsNext, EventsKeepNext, CallsKeepNext, ClosesAlike, IsServedAtRest, IsRefusedAlike, QBufComesWith, QBufIsServed, IsServed, CanBegin, BeginsNext, FinishesNext, EventsKeep, SendingKeeps, GivingKeeps, MessagesAreSteps, OpensAlike};
@@ -63,6 +63,9 @@ pub fn calls_are_answered_alike()
     ensures sinput { (i : ℕ) → IsServed (SInput i) (λ session. sinput_row session i) }
     ensures querybuf { (t i : ℕ) → IsServed (QueryBuf t i) (λ session. querybuf_row session t i) }
     ensures streamon { (t : ℕ) → IsServed (StreamOn t) (λ session. streamon_row session t) }
+    ensures subscribe { (e : ℕ) → IsServed (Subscribe e) (λ session. subscribe_row session e) }
+    ensures unsubscribe { (e : ℕ) → IsServed (Unsubscribe e)
+        (λ session. unsubscribe_row session e) }
 {}
 
 /// Where the driver doesn't refuse a qbuf, its record comes with its memory, and the session queues

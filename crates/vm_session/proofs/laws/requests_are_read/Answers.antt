@@ -1,4 +1,4 @@
-use Rattle.vm_session.proofs.ReadBackLemmas.{enumfmt_reads, gfmt_reads, tryfmt_reads, sfmt_reads, enuminput_reads, sinput_reads, reqbufs_call_reads, querybuf_call_reads, qbuf_call_reads, streamon_reads, streamoff_reads}
+use Rattle.vm_session.proofs.ReadBackLemmas.{enumfmt_reads, gfmt_reads, tryfmt_reads, sfmt_reads, enuminput_reads, sinput_reads, reqbufs_call_reads, querybuf_call_reads, qbuf_call_reads, streamon_reads, streamoff_reads, subscribe_reads, unsubscribe_reads}
 use Rattle.vm_session.proofs.laws.requests_are_read.Goals as goal
 
 pub returns-clause-enumfmt : goal.returns-clause-enumfmt
@@ -33,3 +33,9 @@ returns-clause-streamon c = streamon_reads
 
 pub returns-clause-streamoff : goal.returns-clause-streamoff
 returns-clause-streamoff c = streamoff_reads
+
+pub returns-clause-subscribe : goal.returns-clause-subscribe
+returns-clause-subscribe c = subscribe_reads
+
+pub returns-clause-unsubscribe : goal.returns-clause-unsubscribe
+returns-clause-unsubscribe c = unsubscribe_reads

@@ -1,4 +1,4 @@
-use Rattle.vm_stands.proofs.PlainLemmas.{querycap_served, enumfmt_served, gfmt_served, tryfmt_served, sfmt_served, enuminput_served, ginput_served, sinput_served, querybuf_served, streamon_served}
+use Rattle.vm_stands.proofs.PlainLemmas.{querycap_served, enumfmt_served, gfmt_served, tryfmt_served, sfmt_served, enuminput_served, ginput_served, sinput_served, querybuf_served, streamon_served, subscribe_served, unsubscribe_served}
 use Rattle.vm_stands.proofs.laws.calls_are_answered_alike.Goals as goal
 
 pub returns-clause-querycap : goal.returns-clause-querycap
@@ -30,3 +30,9 @@ returns-clause-querybuf c = querybuf_served
 
 pub returns-clause-streamon : goal.returns-clause-streamon
 returns-clause-streamon c = streamon_served
+
+pub returns-clause-subscribe : goal.returns-clause-subscribe
+returns-clause-subscribe c = subscribe_served
+
+pub returns-clause-unsubscribe : goal.returns-clause-unsubscribe
+returns-clause-unsubscribe c = unsubscribe_served
