@@ -125,7 +125,7 @@ response_goes d p descs c wire held a asked performs =
 
 -- ---- what a chain asks
 
-asks_command : (p : Parcel) (descs : List Desc) (c : Command) → chain_in p ≡ Ok descs → asked_by descs p.pages ≡ Ok c → ask_by (chain_in p) p ≡ Judged (Ok c)
+pub asks_command : (p : Parcel) (descs : List Desc) (c : Command) → chain_in p ≡ Ok descs → asked_by descs p.pages ≡ Ok c → ask_by (chain_in p) p ≡ Judged (Ok c)
 asks_command p descs c walked asked =
     ap (λ o. ask_by o p) walked ∙ ap (λ b. if b then Unusable else Judged (asked_by descs p.pages)) (roomy descs p c asked) ∙ ap Judged asked
 
@@ -304,4 +304,4 @@ is_announced k head p descs h h' sent chain walked fits does = by_ids h.device.u
         let here : AnnouncedTo (session ∷ sessions) (part_of h) d (part_of h') = (refl, does.2, calls) in
         let goes_out : Announced (part_of h) d (part_of h') = subst (λ ids. AnnouncedTo ids (part_of h) d (part_of h')) (sym is) here in
         let good = fits d goes_out in
-        (d, goes_out, subst (λ s. BringsBack k head s d) (sym does.4) (brought_back k head p descs d chain walked good.0 good.1))
+        (d, goes_out, subst (λ s. BringsBack k head s d) (sym does.4) (brought_back k head p descs d chain walked does.5 good))

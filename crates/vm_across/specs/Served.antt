@@ -6,7 +6,6 @@ use Rattle.vm_chain.specs.declared.desc.Desc.{Desc}
 use Rattle.vm_link.specs.Queue.{Queue, finished}
 use Rattle.vm_link.specs.declared.link.Turn.TheVariants.{Did}
 use Rattle.vm_link.specs.declared.parcel.Parcel.{Parcel}
-use Rattle.vm_wire.specs.Event.{IsEvent}
 use Rattle.vm_wire.specs.Message.{Returning}
 use Rattle.vm_wire.specs.declared.delivery.Delivery.{Delivery}
 use Rattle.vm_pump.specs.Pump.{session_of}
@@ -53,12 +52,10 @@ IsResumed =
     × ComesBack n sending w.head sent r
     × (q' ≡ finished q (record { head = w.head; used = sent.used; parcel = sent.parcel }))
 
--- whatever the device may send, its numbers fit into their fields, and it is of the session for
--- which it is sent
+-- whatever the device may send is of the session for which it is sent
 abbrev pub SendsFit : HostState → HostState → Type 0
 SendsFit h h' =
-    (d : Delivery) → Announced (part_of h) d (part_of h') →
-    IsEvent d.msg × (session_of d.msg ≡ d.session)
+    (d : Delivery) → Announced (part_of h) d (part_of h') → session_of d.msg ≡ d.session
 
 -- An event goes out by the device's part of the step, and its chain brings it.
 abbrev pub IsAnnounced : Type 0

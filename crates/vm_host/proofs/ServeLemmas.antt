@@ -20,6 +20,7 @@ use Rattle.vm_session.specs.State.{SessionState, is_quiet}
 use Rattle.vm_wire.specs.declared.command.Command.{Command}
 use Rattle.vm_wire.specs.declared.command.Command.TheVariants.{OpenSession, CloseSession, Ioctl, Map, Unmap}
 use Rattle.vm_wire.specs.declared.command.CmdFault.{CmdFault}
+use Rattle.vm_wire.specs.Event.{IsEvent}
 use Rattle.vm_wire.specs.declared.event.EventMsg.{EventMsg}
 use Rattle.vm_device.specs.Stream.{Sends}
 use Rattle.vm_device.specs.Device.{DeviceState, session_of, is_at_rest}
@@ -420,9 +421,9 @@ event_walked q q1 chain chain' t h limit takes ready unsent =
 
 pub announced : (q q1 q2 : Queue) (chain chain' : WalkedChain) (t : Taken) (h : HostState) (descs : List Desc) (d' : DeviceState) (used : ℕ) (p' : Parcel) (done : Finished)
     (msg : EventMsg) (memory : Option Held) → chain.limit ≡ 64 → TakesFirst q chain t q1 chain' → IsReadyForEvent h q.waiting → nat_lt 0 (length h.device.unsent) ≡ true → descs ≡ chain'.descs
-    → Sends h.device h.device.unsent (Some (msg, memory)) d' → record { used = used; parcel = p' } ≡ sent_event t.parcel descs msg memory
+    → Sends h.device h.device.unsent (Some (msg, memory)) d' → record { used = used; parcel = p' } ≡ sent_event t.parcel descs msg memory → IsEvent msg
     → done ≡ record { head = t.head; used = used; parcel = p' } → q2 ≡ finished q1 done → Announces h q Did (record h { device = d' }) q2
-announced q q1 q2 chain chain' t h descs d' used p' done msg memory limit takes ready unsent same sends tells is finishes =
+announced q q1 q2 chain chain' t h descs d' used p' done msg memory limit takes ready unsent same sends tells fits is finishes =
     let sent : Sent = record { used = used; parcel = p' } in
     let h' : HostState = record h { device = d' } in
     let moved : q2 ≡ moved_on q (rest_of q.waiting) t.head (length t.parcel.table) (Some sent) =
@@ -430,5 +431,5 @@ announced q q1 q2 chain chain' t h descs d' used p' done msg memory limit takes 
     let told : sent ≡ sent_event t.parcel chain'.descs msg memory = tells ∙ ap (λ ds. sent_event t.parcel ds msg memory) same in
     let P : List Parcel → Type 0 = λ ps. AnnouncesIf true ps h q Did h' q2 in
     let walked = event_walked q q1 chain chain' t h limit takes ready unsent in
-    let all : AnnouncesIf true q.waiting h q Did h' q2 = subst P (sym takes.first) (refl, (t.head, chain'.descs, sent, takes.fresh, walked, (msg, memory, sends, refl, told), moved)) in
+    let all : AnnouncesIf true q.waiting h q Did h' q2 = subst P (sym takes.first) (refl, (t.head, chain'.descs, sent, takes.fresh, walked, (msg, memory, sends, refl, told, fits), moved)) in
     subst (λ b. AnnouncesIf b q.waiting h q Did h' q2) (sym unsent) all

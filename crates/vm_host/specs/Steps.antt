@@ -13,6 +13,7 @@ use Rattle.vm_link.specs.declared.link.Turn.TheVariants.{Did, Idle}
 use Rattle.vm_link.specs.declared.parcel.Parcel.{Parcel}
 use Rattle.vm_wire.specs.declared.command.Command.{Command}
 use Rattle.vm_wire.specs.declared.command.CmdFault.{CmdFault}
+use Rattle.vm_wire.specs.Event.{IsEvent}
 use Rattle.vm_wire.specs.declared.event.EventMsg.{EventMsg}
 use Rattle.vm_device.specs.Device.{DeviceState, session_of, is_at_rest}
 use Rattle.vm_device.specs.Perform.{Answer, Performs, HasPlaceFor, must_wait}
@@ -168,7 +169,7 @@ abbrev pub Announce : Parcel → List Desc → ℕ → HostState → Sent → Ho
 Announce p descs head h sent h' =
     (msg : EventMsg) × (memory : Option Held) ×
     Sends h.device h.device.unsent (Some (msg, memory)) h'.device
-    × (h'.waiting ≡ h.waiting) × (sent ≡ sent_event p descs msg memory)
+    × (h'.waiting ≡ h.waiting) × (sent ≡ sent_event p descs msg memory) × IsEvent msg
 
 -- Nothing is done exactly where no event is unsent or no event chain waits.
 abbrev pub AnnouncesIf : Bool → List Parcel → HostState → Queue → Turn → HostState → Queue → Type 0

@@ -9,6 +9,7 @@ ghost use Rattle.vm_chain.specs.Walk.{visits};
 ghost use Rattle.vm_frame.specs.declared.mem.Held.{Held as HeldMemory};
 ghost use Rattle.vm_wire.specs.Wire.{command_bytes, MayFollow};
 ghost use Rattle.vm_wire.specs.declared.command.Command.{Command};
+ghost use Rattle.vm_wire.specs.Event.{IsEvent};
 ghost use Rattle.vm_wire.specs.declared.event.EventMsg.{EventMsg};
 ghost use Rattle.vm_device.specs.Perform.{FitsCall, HasPlaceFor, EachMadeFew, must_wait};
 ghost use Rattle.vm_device.specs.Stream.{Sends};
@@ -310,8 +311,9 @@ fn put_memory(held: &mut Vec<Held>, memory: Option<Held>)
 fn write_event(descs: &[Desc], parcel: &mut Parcel, msg: EventMsg, memory: Option<Held>) -> u32
     requires stay { StayInPages descs.now }
     requires held { length parcel.old.held + 1 ≤ parcel.old.room }
-    ensures { record { used = result; parcel = parcel.new } ≡
+    ensures sent { record { used = result; parcel = parcel.new } ≡
         sent_event parcel.old descs.now msg memory }
+    ensures fits { IsEvent msg }
 {
     let mut bytes = [0; EVENT_ROOM];
     let len = encode_event(&msg, &mut bytes);
@@ -328,7 +330,7 @@ pub(crate) fn tell(device: &mut Device, descs: &[Desc], parcel: &mut Parcel) -> 
     ensures { (msg : EventMsg) × (memory : Option HeldMemory) ×
         Sends device.old device.old.unsent (Some (msg, memory)) device.new
         × (record { used = result; parcel = parcel.new } ≡
-        sent_event parcel.old descs.now msg memory) }
+        sent_event parcel.old descs.now msg memory) × IsEvent msg }
 {
     let (msg, memory) = device.next_event().unwrap();
     write_event(descs, parcel, msg, memory)

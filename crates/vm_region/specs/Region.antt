@@ -1,5 +1,5 @@
 -- The shared region: its journal, and which ranges of it are live.
-use Rattle.std.specs.Prelude.{◌≡◌, ◌≢◌, ◌≤◌, ◌<◌, ℕ, ◌+◌, ◌-◌, ◌*◌, ◌%◌, max, Bool, true, false, not, nat_lt, ◌==◌, ◌&&◌, ◌⊎◌, if◌then◌else◌, Option, Some, None, List, [], ◌∷◌, ◌++◌, length, map, filter, sum_by}
+use Rattle.std.specs.Prelude.{◌≡◌, ◌≢◌, ◌≤◌, ◌<◌, ℕ, ◌+◌, ◌-◌, ◌*◌, ◌%◌, ◌^◌, max, Bool, true, false, not, nat_lt, ◌==◌, ◌&&◌, ◌⊎◌, if◌then◌else◌, Option, Some, None, List, [], ◌∷◌, ◌++◌, length, map, filter, sum_by}
 use Rattle.vm_region.specs.declared.entry.RegionEntry.{RegionEntry}
 use Rattle.vm_region.specs.declared.entry.RegionEntry.TheVariants.{Map, Drop}
 use Rattle.vm_region.specs.declared.live_range.LiveRange.{LiveRange}
@@ -99,10 +99,11 @@ abbrev pub range_of : ℕ → List LiveRange → Option LiveRange
 range_of tag [] = None
 range_of tag (r ∷ rs) = if r.tag == tag then Some r else range_of tag rs
 
--- the least place where so many pages meet no range: it begins a page, and at each lower address
--- they meet one
+-- the least place where so many pages meet no range: it begins a page, they end within the region,
+-- and at each lower address they meet one
 pub record IsLeast (addr pages : ℕ) (rs : List LiveRange) : Type 0 where
   pub page : addr % 4096 ≡ 0
+  pub inside : addr + 4096 * pages ≤ 4096 * 2 ^ 22
   pub free : is_free addr pages (map placed rs) ≡ true
   pub least : (lower : ℕ) → lower < addr → is_free lower pages (map placed rs) ≡ false
 

@@ -23,11 +23,16 @@ places-smaller c =
     omega (arith, later, top)
 
 pub returns : goal.returns
-returns c = record {
-  least = record {
-    page = c.places.invariant.page;
-    free = free_there c.places.addr c.args.pages c.args.ranges.now (sym c.blocking_end.ensures ∙ c.in_default.is);
-    least = c.places.invariant.least;
-  };
-  within = c.places.invariant.within;
-}
+returns c =
+    let here = c.places.invariant.within in
+    let all = c.requires.within in
+    let few = c.requires.small in
+    record {
+      least = record {
+        page = c.places.invariant.page;
+        inside = omega (arith, here, all, few);
+        free = free_there c.places.addr c.args.pages c.args.ranges.now (sym c.blocking_end.ensures ∙ c.in_default.is);
+        least = c.places.invariant.least;
+      };
+      within = c.places.invariant.within;
+    }

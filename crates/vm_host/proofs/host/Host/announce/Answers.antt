@@ -32,4 +32,4 @@ returns-clause-announces g c =
     subst (λ (x : HostState). Announces x q Did (record { device = c.tell-used.new.device; waiting = c.self.inside.waiting.items }) (queue_at Event (g.L.Link.queues c.finish.new.self))) c.self.view_is (
     announced q (queue_at Event (g.L.Link.queues c.take.new.self)) (queue_at Event (g.L.Link.queues c.finish.new.self)) c.self.inside.chain c.take.new.chain c.in-Some.taken h c.descs.result.now
     c.tell-used.new.device c.tell-used.result c.tell-used.new.parcel (record { head = c.in-Some.taken.head; used = c.tell-used.result; parcel = c.tell-used.new.parcel })
-    told.0 told.1 c.self.invariant.2 c.in-Some.ensures.taken ready unsent c.descs.ensures told.2 told.3 refl (ap (queue_at Event) c.finish.ensures))
+    told.0 told.1 c.self.invariant.2 c.in-Some.ensures.taken ready unsent c.descs.ensures told.2 told.3 told.4 refl (ap (queue_at Event) c.finish.ensures))
