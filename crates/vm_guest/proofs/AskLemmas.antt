@@ -8,54 +8,47 @@ use Rattle.v4l_const.specs.declared.errno.Errno.TheVariants.{Enoent, Eio, Ebadf,
 use Rattle.vm_local.specs.declared.call.Call.{Call}
 use Rattle.vm_local.specs.declared.call.Call.TheVariants.{OpenHandle, CloseHandle, QueryCap, EnumFmt, GFmt, TryFmt, SFmt, EnumInput, GInput, SInput, ReqBufs, QueryBuf, UAlloc, QBuf, StreamOn, StreamOff, DqBuf, Mmap, Munmap, Peek, Hash, Poke, Fill, Subscribe, Unsubscribe, DqEvent}
 use Rattle.vm_log.specs.Answers.{AsksFew}
-use Rattle.vm_script.specs.Reading.{If, IsName, Fits32, IsBuilt, IsReadKind, IsReadLine, IsReadProcess, opens, opens_in}
+use Rattle.vm_script.specs.Reading.{InRange, IsReadKind, IsReadLine, IsReadProcess, opens, opens_in}
 use Rattle.vm_script.specs.Script.{ProcessLines}
-use Rattle.vm_script.specs.Verbs.{is_built}
-use Rattle.vm_script.specs.declared.built.Form.TheVariants.{Of}
 use Rattle.vm_script.specs.declared.line.Line.{Line}
 use Rattle.vm_script.specs.declared.line.LineKind.{LineKind}
 use Rattle.vm_script.specs.declared.line.LineKind.TheVariants.{OnHandle, Raw}
-use Rattle.vm_script.specs.declared.verb.Verb.TheVariants as Verb
 use Rattle.vm_wire.specs.Wire.{response_bytes}
 use Rattle.vm_wire.specs.declared.response.Response.TheVariants.{Refused}
 use Rattle.vm_guest.specs.Orderly.{IsFitKind, IsFitProcess}
 use Rattle.vm_guest.specs.Raw.{errno_told}
 
-where_built : (b : Bool) (P : Type 0) → If b P → P
-where_built true P is = is
-where_built false P is = absurd is
-
 -- a read that is read asks for few bytes
-asks_few : (call : Call) → IsBuilt call → AsksFew call
-asks_few (Peek m off len) built = (where_built (is_built (Of Verb.Read)) (IsName m × Fits32 off × (1 ≤ len) × (len ≤ 256)) built).3
-asks_few (OpenHandle nonblock) built = tt
-asks_few CloseHandle built = tt
-asks_few QueryCap built = tt
-asks_few (EnumFmt t i) built = tt
-asks_few (GFmt t) built = tt
-asks_few (TryFmt t f w h) built = tt
-asks_few (SFmt t f w h) built = tt
-asks_few (EnumInput i) built = tt
-asks_few GInput built = tt
-asks_few (SInput i) built = tt
-asks_few (ReqBufs t m n) built = tt
-asks_few (QueryBuf t i) built = tt
-asks_few (UAlloc u len off) built = tt
-asks_few (QBuf t i user used ts) built = tt
-asks_few (StreamOn t) built = tt
-asks_few (StreamOff t) built = tt
-asks_few (DqBuf t) built = tt
-asks_few (Mmap m t i ro) built = tt
-asks_few (Munmap m) built = tt
-asks_few (Hash m) built = tt
-asks_few (Poke m off bytes) built = tt
-asks_few (Fill m seed) built = tt
-asks_few (Subscribe e) built = tt
-asks_few (Unsubscribe e) built = tt
-asks_few DqEvent built = tt
+asks_few : (call : Call) → InRange call → AsksFew call
+asks_few (Peek m off len) range = range.3
+asks_few (OpenHandle nonblock) range = tt
+asks_few CloseHandle range = tt
+asks_few QueryCap range = tt
+asks_few (EnumFmt t i) range = tt
+asks_few (GFmt t) range = tt
+asks_few (TryFmt t f w h) range = tt
+asks_few (SFmt t f w h) range = tt
+asks_few (EnumInput i) range = tt
+asks_few GInput range = tt
+asks_few (SInput i) range = tt
+asks_few (ReqBufs t m n) range = tt
+asks_few (QueryBuf t i) range = tt
+asks_few (UAlloc u len off) range = tt
+asks_few (QBuf t i user used ts) range = tt
+asks_few (StreamOn t) range = tt
+asks_few (StreamOff t) range = tt
+asks_few (DqBuf t) range = tt
+asks_few (Mmap m t i ro) range = tt
+asks_few (Munmap m) range = tt
+asks_few (Hash m) range = tt
+asks_few (Poke m off bytes) range = tt
+asks_few (Fill m seed) range = tt
+asks_few (Subscribe e) range = tt
+asks_few (Unsubscribe e) range = tt
+asks_few DqEvent range = tt
 
 read_kind_fits : (names : List (List ℕ)) (echo : List ℕ) (what : LineKind) → IsReadKind names echo what → IsFitKind (length names) what
-read_kind_fits names echo (OnHandle h call) read = (read.within, asks_few call read.built)
+read_kind_fits names echo (OnHandle h call) read = (read.within, asks_few call read.range)
 read_kind_fits names echo (Raw chain) read = absurd read
 
 -- a line opens one handle at most
@@ -98,7 +91,7 @@ read_fits p read = record {
   limit = read.limit;
   named = let few = opens_in_few p.lines in let opened = read.opened in omega (arith, few, opened);
   each = All-weaker (IsReadLine p.handles) (λ (l : Line). IsFitKind (length p.handles) l.what)
-      (λ l is. read_kind_fits p.handles l.echo l.what is) p.lines read.each;
+      (λ l is. read_kind_fits p.handles l.echo l.what is.what) p.lines read.each;
 }
 
 -- the bytes of a refusal tell the errno with its number

@@ -10,6 +10,7 @@ use Rattle.vm_link.specs.declared.parcel.Parcel.{Parcel}
 use Rattle.vm_log.specs.Answers.{AsksFew}
 use Rattle.vm_log.specs.LegalLog.{IsSound, lease_in}
 use Rattle.vm_pump.specs.Pump.{handle_room}
+pub use Rattle.vm_script.specs.Drafts.{process_limit}
 use Rattle.vm_script.specs.Grammar.{statement_limit}
 use Rattle.vm_script.specs.Lines.{lines_of, calls_of}
 use Rattle.vm_script.specs.Script.{ProcessLines, ScriptLines}
@@ -38,10 +39,6 @@ pub record IsFitProcess (p : ProcessLines) : Type 0 where
   pub limit : length p.lines ≤ statement_limit
   pub named : length p.handles ≤ length p.lines
   pub each : All (λ l. IsFitKind (length p.handles) l.what) p.lines
-
--- how many processes a script has at most
-abbrev pub process_limit : ℕ
-process_limit = 16
 
 -- What the driver needs of a script; each that a reader gives has it.
 pub record IsFitScript (script : ScriptLines) : Type 0 where

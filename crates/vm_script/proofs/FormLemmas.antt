@@ -1,9 +1,7 @@
 -- What forms that begin alike say of a line's words.
-use Rattle.std.proofs.Common.{◌≡◌, ◌<◌, ◌≤◌, ℕ, Bor, arith, get_or, length, List, [], ◌∷◌, ◌++◌, map, Option, Some, None, Result, Ok, Err, refl, sym, ap, ◌∙◌}
+use Rattle.std.proofs.Common.{◌≡◌, ◌<◌, ◌≤◌, ℕ, Bor, arith, get_or, length, List, [], ◌∷◌, ◌++◌, map, Option, Some, None, Result, Ok, Err, refl}
 use Rattle.std.specs.Option.{ok_or, option_map}
 use Rattle.std.specs.Prelude.{codes}
-use Rattle.vm_local.specs.declared.call.Call.{Call}
-use Rattle.vm_script.specs.declared.extras.Extras.{Extras}
 use Rattle.vm_script.specs.declared.fault.ScriptKind.{ScriptKind}
 use Rattle.vm_script.specs.declared.fault.ScriptKind.TheVariants.{Number, Word}
 use Rattle.vm_script.specs.declared.verb.Verb.TheVariants.{QBuf}

@@ -2,12 +2,13 @@ pub mod ByteLemmas
 pub mod CallLemmas
 pub mod CountLemmas
 pub mod DraftLemmas
+pub mod EchoLemmas
 pub mod FormLemmas
 pub mod LineLemmas
 pub mod NameLemmas
 pub mod NumberLemmas
+pub mod OwnLemmas
 pub mod PlaceLemmas
-pub mod QueueLemmas
 pub mod ReaderLemmas
 pub mod ScriptLemmas
 pub mod StatementLemmas

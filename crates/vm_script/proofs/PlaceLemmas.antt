@@ -13,7 +13,7 @@ use Rattle.vm_script.specs.declared.fault.ScriptKind.{ScriptKind}
 use Rattle.vm_script.specs.declared.fault.ScriptKind.TheVariants.{Word, Name, Number}
 use Rattle.vm_script.specs.Reading.{Fits32, IsName}
 use Rattle.vm_script.specs.Words.{is_name, name_in, is_digits, number_after, code_in, is_visible}
-use Rattle.vm_script.specs.Places.{Place, Memory, BufType, MemoryKind, Count, Between, Code, Hex, This, Value, Named, Counts, Holds, Is, count_in, either_in, type_in, memory_kind_in, within, between_in, few, bytes_in, value_in, and_then, Taken, or_taken, taken_by, values_by}
+use Rattle.vm_script.specs.Places.{Place, Memory, BufType, MemoryKind, Count, Between, Code, Hex, This, Value, Named, Counts, Holds, Is, count_in, type_in, memory_kind_in, within, between_in, few, bytes_in, value_in, and_then, Taken, or_taken, taken_by, values_by}
 
 -- P of what is there
 abbrev pub IfThere : {T : Type 0} → (T → Type 0) → Option T → Type 0

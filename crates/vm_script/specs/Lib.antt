@@ -1,3 +1,4 @@
+pub mod Drafts
 pub mod Grammar
 pub mod Lines
 pub mod Memory

@@ -1,7 +1,7 @@
 -- Lines and words, and what a word may be: a name, a number, a picture format's code.
-use Rattle.std.specs.Prelude.{ℕ, ◌==◌, ◌&&◌, ◌||◌, ◌+◌, ◌-◌, ◌*◌, not, nat_le, Bool, true, false, List, [], ◌∷◌, length, filter, Option, Some, None, if◌then◌else◌}
+use Rattle.std.specs.Prelude.{ℕ, ◌≡◌, ◌==◌, ◌&&◌, ◌||◌, ◌+◌, ◌-◌, ◌*◌, not, nat_le, Bool, true, false, List, [], ◌∷◌, length, filter, Option, Some, None, if◌then◌else◌}
 use Rattle.std.specs.Int.{from_le_bytes, w32}
-use Rattle.std.specs.List.{list_all}
+use Rattle.std.specs.List.{join_with_byte, list_all}
 
 -- ---- lines and words
 
@@ -34,6 +34,10 @@ lines_in bytes = pieces_by ends_line bytes
 
 abbrev pub words_in : List ℕ → List (List ℕ)
 words_in line = filter (λ w. not (is_empty w)) (pieces_by parts_words line)
+
+-- the words of one line, joined by one space
+abbrev pub IsEcho : List ℕ → Type 0
+IsEcho text = (lines_in text ≡ text ∷ []) × (join_with_byte 32 (words_in text) ≡ text)
 
 -- the line begins with a number sign
 abbrev pub is_comment : List ℕ → Bool

@@ -1,7 +1,8 @@
 //! A process while its lines are read.
 
 ghost use Rattle.std.specs.Prelude.{◌≡◌, OnOk, OnErr, Ok};
-ghost use Rattle.vm_script.specs.Grammar.{declares, no_lines, handle_for, with_statement};
+ghost use Rattle.vm_script.specs.Drafts.{no_lines};
+ghost use Rattle.vm_script.specs.Grammar.{declares, handle_for, with_statement};
 
 use crate::mention::{Mention, check_mention, mention_of};
 use crate::names::Names;

@@ -1,3 +1,6 @@
+ghost use Rattle.std.specs.Prelude.{◌≡◌};
+ghost use Rattle.vm_script.specs.declared.fault.ScriptError.TheVariants.{Fault};
+
 use thiserror::Error;
 use vm_mem::Memory;
 
@@ -50,4 +53,11 @@ impl From<Memory> for ScriptError {
     fn from(_memory: Memory) -> ScriptError {
         ScriptError::Memory
     }
+}
+
+/// The fault of the line of this number.
+pub fn faulty(number: u32, kind: ScriptKind) -> ScriptError
+    ensures { result ≡ Fault (record { line = number; kind = kind }) }
+{
+    ScriptError::Fault(ScriptFault { line: number, kind })
 }

@@ -1,11 +1,8 @@
-//! The whole grammar, of lines that are built and of those that aren't.
+//! The grammar of statements.
 
 ghost use Rattle.std.specs.Prelude.{◌<◌, ◌≤◌, length};
 
-use crate::draft::Draft;
-use crate::reader::add_words;
-use crate::words::words_in;
-use crate::{Line, LineKind, Process, ScriptError, ScriptKind};
+use crate::{Line, LineKind, Process, ScriptError, ScriptKind, read_script};
 use std::alloc::{AllocError, Global};
 use std::test::Fail;
 use vm_local::{Call, Name, Small};
@@ -13,18 +10,13 @@ use vm_local::{Call, Name, Small};
 /// A handle `a` with the memories `u` and `m`, and a handle `b` with none.
 const BEFORE: &[u8] = b"open a\nualloc a u 16 0\nmmap a m cap 0\nopen b\n";
 
-/// The lines of a process, whether they are built or not.
+/// The lines of a script of one process.
 fn lines_of(alloc: Global, script: &[u8]) -> Result<Vec<Line>, ScriptError> {
-    let mut process = Draft::new(alloc);
-    let mut number: u32 = 0;
-    for line in script.split(|byte| *byte == b'\n') {
-        number = number.saturating_add(1);
-        let words = words_in(alloc, line)?;
-        if !words.is_empty() {
-            add_words(alloc, &mut process, number, &words)?;
-        }
+    if script.len() > 100_000 {
+        return Err(ScriptError::Memory);
     }
-    let Process { handles: _, lines } = process.finish();
+    let mut script = read_script(alloc, script)?;
+    let Process { handles: _, lines } = script.processes.pop().ok_or(ScriptError::Memory)?;
     Ok(lines)
 }
 

@@ -3,6 +3,7 @@
 
 mod built;
 mod draft;
+mod drafts;
 mod echo;
 mod extras;
 mod fault;
@@ -12,6 +13,7 @@ mod line;
 mod mention;
 mod names;
 mod number;
+mod process;
 mod reader;
 mod script;
 mod statement;
@@ -22,7 +24,7 @@ mod words;
 pub use built::is_built_line;
 pub use echo::Echo;
 pub use fault::{ScriptError, ScriptFault, ScriptKind};
-pub use laws::{scripts_are_of_one_process, texts_read_as_one_call};
+pub use laws::{scripts_are_read, texts_read_as_one_call};
 pub use line::{Line, LineKind, RawChain};
 pub use number::number_of;
 pub use reader::read_script;

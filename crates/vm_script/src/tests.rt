@@ -1,7 +1,9 @@
+ghost use Rattle.std.specs.Prelude.{◌≤◌};
+
 use crate::{LineKind, ScriptError, ScriptFault, ScriptKind, number_of, read_script};
 use std::alloc::{AllocError, Global};
 use std::test::Fail;
-use v4l_const::FourCc;
+use v4l_const::{FourCc, Model as DeviceModel};
 use vm_local::Call;
 
 /// The first fault of a script. `None` where there is none, or where memory ran out.
@@ -35,7 +37,7 @@ fn tells_the_first_faulty_line(rt: HostRuntime) -> Result<(), Fail> {
         (b"open a\nclose b\n", 2, ScriptKind::NotDeclared),
         (b"close a\nopen a\n", 1, ScriptKind::NotDeclared),
         (b"raw bytes 0100000000000000 16\n", 1, ScriptKind::NotBuilt),
-        (b"proc\nproc\nproc\n", 1, ScriptKind::NotBuilt),
+        (b"proc\nproc\nproc x\n", 3, ScriptKind::Word),
         (b"# open a\nclose a\nopen 9x", 2, ScriptKind::NotDeclared),
         (b"\n\r\n \t\n\nopen A", 5, ScriptKind::Name),
         (b" # open a\n", 1, ScriptKind::Word),
@@ -120,15 +122,16 @@ fn tells_the_first_fault_of_a_line(rt: HostRuntime) -> Result<(), Fail> {
     Ok(())
 }
 
+/// Lines that aren't built, whatever the grammar says of their words.
 #[test]
-fn does_not_read_lines_on_no_handle(rt: HostRuntime) -> Result<(), Fail> {
+fn tells_first_what_is_not_built(rt: HostRuntime) -> Result<(), Fail> {
     let lines: [&[u8]; 6] = [
-        b"device",
-        b"device capture",
-        b"proc",
         b"raw",
         b"raw chain loop",
+        b"raw chain x",
         b"raw bytes 0100000000000000 16",
+        b"raw bytes 0 4097",
+        b"\traw a b c d e f g h i",
     ];
     for line in lines {
         let fault = fault_behind_open(rt.alloc(), line)?;
@@ -138,47 +141,155 @@ fn does_not_read_lines_on_no_handle(rt: HostRuntime) -> Result<(), Fail> {
     Ok(())
 }
 
-/// Lines that aren't built, whatever the grammar says of their words.
 #[test]
-fn tells_first_what_is_not_built(rt: HostRuntime) -> Result<(), Fail> {
-    let lines: [&[u8]; 32] = [
-        b"device",
-        b"device capture",
-        b"proc",
-        b"raw",
-        b"raw chain loop",
-        b"reqbufs",
-        b"querybuf",
-        b"ualloc",
-        b"qbuf",
-        b"streamon",
-        b"streamoff",
-        b"dqbuf",
-        b"mmap",
-        b"munmap",
-        b"read",
-        b"hash",
-        b"write",
-        b"fill",
-        b"subscribe",
-        b"unsubscribe",
-        b"dqevent",
-        b"open b c",
-        b"open 9x y",
-        b"open a nonblock",
-        b"qbuf 9x cap",
-        b"qbuf 9x cap 0 user",
-        b"qbuf a cap 0 user m",
-        b"qbuf b cap 0 used user",
-        b"reqbufs a cap map 1",
-        b"read a m 0 x",
-        b"read b m 0 1",
-        b"mmap a M cap 0",
+fn tells_a_device_line_out_of_its_place(rt: HostRuntime) -> Result<(), Fail> {
+    let scripts: [(&[u8], u32); 14] = [
+        (b"device", 1),
+        (b"device x", 1),
+        (b"device Capture", 1),
+        (b"device capture convert", 1),
+        (b"device convert x", 1),
+        (b"devices capture", 1),
+        (b"Device capture", 1),
+        (b"# a\n\n \ndevice captur", 4),
+        (b"device capture\ndevice capture", 2),
+        (b"device convert\n\ndevice x", 3),
+        (b"open a\ndevice capture", 2),
+        (b"proc\ndevice convert", 2),
+        (b"open a\nproc\ndevice", 3),
+        (b"queue 64", 1),
     ];
-    for line in lines {
-        let fault = fault_behind_open(rt.alloc(), line)?;
-        let kind = ScriptKind::NotBuilt;
-        assert_eq!(rt; fault, Some(ScriptFault { line: 2, kind }));
+    for (script, line) in scripts {
+        let kind = ScriptKind::Word;
+        assert_eq!(rt;
+            fault_in(rt.alloc(), script),
+            Some(ScriptFault { line, kind })
+        );
+    }
+    Ok(())
+}
+
+/// The model of a script, and how many handles and lines each of its first processes has.
+fn shape_of(alloc: Global, script: &[u8]) -> Option<(DeviceModel, usize, [(usize, usize); 3])> {
+    if script.len() > 100_000 {
+        return None;
+    }
+    let script = read_script(alloc, script).ok()?;
+    let mut shape = [(0, 0); 3];
+    for (row, process) in shape.iter_mut().zip(&script.processes) {
+        *row = (process.handles.len(), process.lines.len());
+    }
+    Some((script.model, script.processes.len(), shape))
+}
+
+#[test]
+fn reads_the_model_and_the_processes(rt: HostRuntime) -> Result<(), Fail> {
+    let capture = DeviceModel::Capture;
+    let convert = DeviceModel::Convert;
+    let scripts: [(&[u8], DeviceModel, usize, [(usize, usize); 3]); 10] = [
+        (b"", capture, 1, [(0, 0), (0, 0), (0, 0)]),
+        (b"# device convert", capture, 1, [(0, 0), (0, 0), (0, 0)]),
+        (b"device capture", capture, 1, [(0, 0), (0, 0), (0, 0)]),
+        (
+            b"\n#\n\tdevice  convert\r",
+            convert,
+            1,
+            [(0, 0), (0, 0), (0, 0)],
+        ),
+        (
+            b"device convert\nopen a",
+            convert,
+            1,
+            [(1, 1), (0, 0), (0, 0)],
+        ),
+        (b"proc", capture, 2, [(0, 0), (0, 0), (0, 0)]),
+        (
+            b"device convert\nproc\nopen a\n proc ",
+            convert,
+            3,
+            [(0, 0), (1, 1), (0, 0)],
+        ),
+        (
+            b"open a\nclose a\nproc\nopen a\n",
+            capture,
+            2,
+            [(1, 2), (1, 1), (0, 0)],
+        ),
+        (
+            b"open a\nualloc a m 1 0\nproc\nopen b\nopen a\nualloc a m 1 0",
+            capture,
+            2,
+            [(1, 2), (2, 3), (0, 0)],
+        ),
+        (
+            b"open a\nproc\nproc\nopen a",
+            capture,
+            3,
+            [(1, 1), (0, 0), (1, 1)],
+        ),
+    ];
+    for (script, model, processes, shape) in scripts {
+        assert_eq!(rt;
+            shape_of(rt.alloc(), script),
+            Some((model, processes, shape))
+        );
+    }
+    Ok(())
+}
+
+/// Names belong to their process.
+#[test]
+fn tells_names_of_another_process(rt: HostRuntime) -> Result<(), Fail> {
+    let scripts: [(&[u8], u32, ScriptKind); 4] = [
+        (b"open a\nproc\nclose a", 3, ScriptKind::NotDeclared),
+        (
+            b"open a\nualloc a m 1 0\nproc\nopen a\nhash a m",
+            5,
+            ScriptKind::NotDeclared,
+        ),
+        (b"proc\nopen a\nopen a", 3, ScriptKind::OpenTwice),
+        (
+            b"open a\nproc\nopen a\nmmap a m cap 0\nualloc a m 1 0",
+            5,
+            ScriptKind::OpenTwice,
+        ),
+    ];
+    for (script, line, kind) in scripts {
+        assert_eq!(rt;
+            fault_in(rt.alloc(), script),
+            Some(ScriptFault { line, kind })
+        );
+    }
+    Ok(())
+}
+
+/// So many `proc` lines, with lines between them that are skipped.
+fn processes(alloc: Global, count: usize) -> Result<Vec<u8>, AllocError>
+    requires { count ≤ 100 }
+{
+    let mut script = Vec::new(alloc);
+    script.extend_from_slice(b"device convert\n")?;
+    for _ in 0..count {
+        script.extend_from_slice(b"open a\n\nproc\n")?;
+    }
+    Ok(script)
+}
+
+#[test]
+fn takes_so_many_processes(rt: HostRuntime) -> Result<(), Fail> {
+    let most = processes(rt.alloc(), 15)?;
+    assert_eq!(rt; fault_in(rt.alloc(), &most), None);
+    let lines: [(&[u8], ScriptKind); 4] = [
+        (b"proc", ScriptKind::TooManyProcesses),
+        (b"proc x", ScriptKind::Word),
+        (b"device capture", ScriptKind::Word),
+        (b"raw", ScriptKind::NotBuilt),
+    ];
+    for (line, kind) in lines {
+        let mut script = processes(rt.alloc(), 15)?;
+        script.extend_from_slice(line)?;
+        let fault = fault_in(rt.alloc(), &script);
+        assert_eq!(rt; fault, Some(ScriptFault { line: 47, kind }));
     }
     Ok(())
 }
@@ -205,7 +316,7 @@ fn takes_so_many_statements(rt: HostRuntime) -> Result<(), Fail> {
         (b"sinput a x", ScriptKind::Number),
         (b"open 9x", ScriptKind::Name),
         (b"sfm", ScriptKind::Word),
-        (b"proc", ScriptKind::NotBuilt),
+        (b"proc x", ScriptKind::Word),
     ];
     for (line, kind) in lines {
         let mut script = full_script(rt.alloc())?;
@@ -216,7 +327,15 @@ fn takes_so_many_statements(rt: HostRuntime) -> Result<(), Fail> {
     Ok(())
 }
 
-/// What the last line of a script of one process asks.
+#[test]
+fn counts_the_statements_of_each_process(rt: HostRuntime) -> Result<(), Fail> {
+    let mut script = full_script(rt.alloc())?;
+    script.extend_from_slice(b"proc\nopen a\nclose a")?;
+    assert_eq!(rt; fault_in(rt.alloc(), &script), None);
+    Ok(())
+}
+
+/// What the last line of a script asks.
 fn last_line(alloc: Global, script: &[u8]) -> Option<LineKind> {
     if script.len() > 100_000 {
         return None;

@@ -1,6 +1,6 @@
-use Rattle.std.proofs.Common.{◌≡◌, rules, arith, false, ap, sym, ◌∙◌, ◌++◌, ◌∷◌, []}
+use Rattle.std.proofs.Common.{◌≡◌, arith, sym, ◌∙◌, ◌++◌, ◌∷◌, []}
 use Rattle.std.proofs.lemmas.Grind.{common_steps}
-use Rattle.vm_script.specs.Memory.{mention, declared_by}
+use Rattle.vm_script.specs.Memory.{mention}
 use Rattle.vm_script.proofs.DraftLemmas.{line_of, handle_within, kept_open, kept_declares, kept_other, none_declared}
 use Rattle.vm_script.proofs.draft.Draft.add.Goals as goal
 use Rattle.vm_script.proofs.draft.Draft.add.Goals.{then-declares+in_ok-reserve-2+in_ok-push, else-declares+in-Declares+in_ok-push-2, else-declares+in_default}
