@@ -28,7 +28,7 @@ use Rattle.vm_session.specs.declared.running.Running.{Running}
 use Rattle.vm_session.specs.declared.unsent.Unsent.{Unsent}
 use Rattle.vm_session.specs.State.{SessionState, pictures, opening_session}
 use Rattle.vm_session.specs.Sound.{taken_by}
-use Rattle.vm_session.specs.Rows.{IoctlRow, IoctlAnswer, querycap_row, enumfmt_row, gfmt_row, tryfmt_row, sfmt_row, enuminput_row, ginput_row, sinput_row, reqbufs_row, querybuf_row, qbuf_row, streamon_row, streamoff_row, ioctl_row, refused_or, refusal_of, ioctl_outcome}
+use Rattle.vm_session.specs.Rows.{IoctlRow, IoctlAnswer, querycap_row, enumfmt_row, gfmt_row, tryfmt_row, sfmt_row, enuminput_row, ginput_row, sinput_row, reqbufs_row, querybuf_row, qbuf_row, streamon_row, streamoff_row, subscribe_row, unsubscribe_row, ioctl_row, refused_or, refusal_of, ioctl_outcome}
 use Rattle.vm_session.specs.Streaming.{note_of, returned, sync_events, src_events, dst_event, events_of, with_returned, sent, sent_of}
 use Rattle.vm_device.specs.Brought.{comes_with}
 use Rattle.vm_device.specs.Device.{DeviceState, session_of, is_at_rest}
@@ -61,7 +61,7 @@ in_sessions m ss = sum_by (in_session_of m) ss
 -- ---- commands
 
 row_unsent : (s : SessionState) (code : IoctlCode) (p : List ℕ) (held : List Held) → (ioctl_row s code p held).next.unsent ≡ s.unsent
-unfolding querycap_row enumfmt_row gfmt_row tryfmt_row sfmt_row enuminput_row ginput_row sinput_row reqbufs_row querybuf_row qbuf_row streamon_row streamoff_row
+unfolding querycap_row enumfmt_row gfmt_row tryfmt_row sfmt_row enuminput_row ginput_row sinput_row reqbufs_row querybuf_row qbuf_row streamon_row streamoff_row subscribe_row unsubscribe_row
 row_unsent s QueryCap p held = refl
 row_unsent s EnumFmt p held = refl
 row_unsent s GFmt p held = refl

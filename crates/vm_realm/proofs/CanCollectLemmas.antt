@@ -1,15 +1,13 @@
 -- In a sound world the first reply answers its line, once the events that come first are taken.
-use Rattle.std.proofs.Common.{◌≡◌, ◌⊎◌, ◌≢◌, ℕ, zero, suc, ◌+◌, ◌<◌, ◌≤◌, ◌^◌, Bool, true, false, not, List, [], ◌∷◌, ◌++◌, Option, Some, None, length, get_or, set, map, replicate, is_some, refl, sym, ap, ◌∙◌, subst, arith, inl, inr, eqb, cond, if◌then◌else◌, lit<, lit≤}
-use Rattle.std.specs.Prelude.{slice_get, IsSome}
+use Rattle.std.proofs.Common.{◌≡◌, ◌≢◌, ℕ, zero, suc, ◌<◌, ◌≤◌, ◌^◌, Bool, true, false, not, List, [], ◌∷◌, ◌++◌, Option, Some, None, length, get_or, set, map, replicate, is_some, refl, sym, ap, ◌∙◌, subst, arith, eqb, if◌then◌else◌, lit<, lit≤}
+use Rattle.std.specs.Prelude.{IsSome}
 use Rattle.std.specs.List.{filter}
 use Rattle.std.specs.Option.{option_and_then}
-use Rattle.std.proofs.lemmas.Bool.{false≢true, true≢false, cases_Bool, cases_eq, cond-true, eq-eqb}
-use Rattle.std.proofs.lemmas.List.{append-nil, append_assoc, map-append, nil_from_length, get_or-set_same, get_or-set_other, length-set}
-use Rattle.std.proofs.lemmas.Option.{none-some, same_Some}
-use Rattle.v4l_const.specs.Errno.{errno_number}
+use Rattle.std.proofs.lemmas.Bool.{false≢true, cond-true, eq-eqb}
+use Rattle.std.proofs.lemmas.List.{append-nil, append_assoc, map-append, nil_from_length, get_or-set_same, length-set}
+use Rattle.std.proofs.lemmas.Option.{same_Some}
 use Rattle.v4l_const.specs.declared.errno.Errno.{Errno}
 use Rattle.v4l_const.specs.declared.errno.Errno.TheVariants.{Enoent, Eio, Ebadf, Eagain, Enomem, Eacces, Efault, Ebusy, Einval, Enotty, Edeadlk, Emsgsize, Eopnotsupp}
-use Rattle.vm_frame.specs.declared.mem.Held.{Held}
 use Rattle.vm_home.specs.Moves.{ComeWith, is_refusal, is_stopping}
 use Rattle.vm_home.specs.Reached.{IsReached}
 use Rattle.vm_local.specs.declared.call.Call.{Call}
@@ -22,13 +20,11 @@ use Rattle.vm_local.specs.State.{LocalState, opening}
 use Rattle.vm_local.specs.Log.{IsCall, IsLegal, after, replay, replay_from}
 use Rattle.vm_local.proofs.LogLemmas.{replay_from_append}
 use Rattle.vm_log.specs.LegalLog.{LogState, state_of, state_after}
-use Rattle.vm_log.specs.Answers.{replied as log_replied}
 use Rattle.vm_script.specs.declared.line.LineKind.{LineKind}
 use Rattle.vm_script.specs.declared.line.LineKind.TheVariants.{OnHandle, Raw}
 use Rattle.vm_script.specs.declared.line.RawChain.{RawChain}
-use Rattle.vm_wire.specs.Message.{Posting, Returning}
+use Rattle.vm_wire.specs.Message.{Returning}
 use Rattle.vm_wire.specs.Wire.{response_bytes, response_of, response_len, Answers, ReadsBack}
-use Rattle.vm_wire.specs.declared.command.Command.{Command}
 use Rattle.vm_wire.specs.declared.delivery.Delivery.{Delivery}
 use Rattle.vm_wire.specs.declared.response.Response.{Response}
 use Rattle.vm_wire.specs.declared.response.Response.TheVariants.{Opened}
@@ -37,40 +33,38 @@ use Rattle.vm_exchange.specs.Exchange.{response_to, IsAnswer, command_in}
 use Rattle.vm_exchange.specs.Messages.{flight_of}
 use Rattle.vm_exchange.specs.declared.crossing.Crossing.{Crossing as CrossingOf}
 use Rattle.vm_exchange.proofs.ReplyLemmas.{answer_fits}
-use Rattle.vm_handle.specs.Answers.{AnswersWith, awoken, session_from, with_reply, delivered}
+use Rattle.vm_handle.specs.Answers.{awoken, with_reply, delivered}
 use Rattle.vm_handle.specs.Handle.{HandleState, crossing_from, id_of}
-use Rattle.vm_handle.specs.declared.stage.Stage.{Stage}
 use Rattle.vm_handle.specs.declared.stage.Stage.TheVariants.{AtRest as Resting, Underway}
 use Rattle.vm_session.specs.State.{SessionState}
 use Rattle.vm_session.specs.declared.unsent.Unsent.{Unsent}
-use Rattle.vm_stands.specs.Flight.{LeadAll, Leads as LeadsTo, stops_queues}
-use Rattle.vm_stands.specs.Slice.{IsSlice, LeadAhead, LeadWith}
+use Rattle.vm_stands.specs.Flight.{LeadAll, stops_queues}
+use Rattle.vm_stands.specs.Slice.{LeadAhead, LeadWith}
 use Rattle.vm_stands.proofs.AheadLemmas.{collects_refused}
 use Rattle.vm_stands.proofs.FlightLemmas.{all_replay, leads_replay}
 use Rattle.vm_guest.specs.Asking.{asked_by, asked_in, ends_with_events}
-use Rattle.vm_guest.specs.Events.{told, told_at, all_taken, CanTell, CanTellAll, CanCatchUp, CanSettle, events_of}
+use Rattle.vm_guest.specs.Events.{told, told_at, all_taken, CanTellAll, CanCatchUp, CanSettle, events_of}
 use Rattle.vm_guest.specs.Guest.{GuestState, no_process, process_in, process_at, with_process}
-use Rattle.vm_guest.specs.Lines.{command_for, MayAnswer, CallAnswered, AnsweredFor, AnswersRaw, CanAnswer, replied}
-use Rattle.vm_guest.specs.Orderly.{IsOrderly, IsOut as IsCallOut, IsOutAt, lines_at}
+use Rattle.vm_guest.specs.Lines.{CallAnswered, AnsweredFor, AnswersRaw, CanAnswer}
+use Rattle.vm_guest.specs.Orderly.{IsOutAt}
 use Rattle.vm_guest.specs.Process.{ProcessState, is_blocked, is_crossing, current, current_call, some_if, crossing, crossing_call, handle_at, with_handle, no_handle, rested}
 use Rattle.vm_guest.specs.Raw.{errno_told, raw_errno}
 use Rattle.vm_guest.specs.Steps.{all_if}
 use Rattle.vm_guest.specs.declared.asked.Asked.{Asked as AskedCall}
 use Rattle.vm_guest.specs.declared.asked.Statement.{Statement}
 use Rattle.vm_guest.specs.declared.seat.Seat.{Seat}
-use Rattle.vm_guest.specs.declared.status.Status.{Status}
 use Rattle.vm_guest.specs.declared.status.Status.TheVariants.{Crossing}
 use Rattle.vm_realm.specs.declared.step.Step.TheVariants.{Pump}
 use Rattle.vm_realm.specs.World.{WorldState}
 use Rattle.vm_realm.specs.Inner.{Inner, driver_state, id_in, under_way, unsent_in}
 use Rattle.vm_realm.specs.Laws.{CanCollect, behind_events}
 use Rattle.vm_realm.specs.Steps.{Leads}
-use Rattle.vm_realm.specs.Slice.{Slice, Out, id_told, id_ahead, events_for, requests_of, calls_of, replies_of, out_from, out_of, is_on, out_at, slice_at, unsent_by, earlier_of}
+use Rattle.vm_realm.specs.Slice.{Slice, id_told, id_ahead, events_for, requests_of, calls_of, replies_of, out_from, out_of, is_on, out_at, slice_at, unsent_by, earlier_of}
 use Rattle.vm_realm.specs.Slice.Out.{Nowhere, Told}
 use Rattle.vm_realm.specs.SliceSteps.{holds_back}
-use Rattle.vm_realm.specs.Sound.{IsTold, IsBefore, IsOut, IsShut, IsSeated, IsSoundSlice, HoldsFew, raw_reply, IsRawOut, IsLineOut, IsSoundBy, IsSound, IsHandle, id_at, inner_at, out_count, one_if}
+use Rattle.vm_realm.specs.Sound.{IsTold, IsBefore, IsOut, IsSeated, IsSoundSlice, HoldsFew, raw_reply, IsRawOut, IsLineOut, IsSoundBy, IsSound, IsHandle, id_at, inner_at, out_count, one_if}
 use Rattle.vm_realm.proofs.SumLemmas.{place_within}
-use Rattle.vm_realm.proofs.FrameLemmas.{has_handle, handle_there}
+use Rattle.vm_realm.proofs.FrameLemmas.{handle_there}
 use Rattle.vm_realm.proofs.ProcessLemmas.{some_where, Stays}
 use Rattle.vm_realm.proofs.GuestLemmas.{taken_stays}
 use Rattle.vm_realm.proofs.PumpingLemmas.{pumped, pumps_all, crossing_stays}
@@ -146,7 +140,7 @@ pub record IsHandleTold (w : WorldState) (rows : List (List Inner)) (h : ℕ) (r
   pub out : out_at w r.reply.who h ≡ Told r
   pub told : IsTold (slice_at w r.reply.who h) (inner_at w rows r.reply.who h) r
 
-handle_told : (w : WorldState) (rows : List (List Inner)) (r : Returning) (h : ℕ) (call : Call) → IsSoundBy w rows → (first : IsFirstTold w r) → first.statement.what ≡ OnHandle h call → IsHandleTold w rows h r
+pub handle_told : (w : WorldState) (rows : List (List Inner)) (r : Returning) (h : ℕ) (call : Call) → IsSoundBy w rows → (first : IsFirstTold w r) → first.statement.what ≡ OnHandle h call → IsHandleTold w rows h r
 handle_told w rows r h call sound first what =
     let n : ℕ = r.reply.who in
     let s : Statement = first.statement in
@@ -164,7 +158,7 @@ same_under : (line other : ℕ) (call another : Call) → Underway line call ≡
 same_under line other call another same = (cc, cc)
 
 -- the reply is that of the statement's call
-own_call : (w : WorldState) (rows : List (List Inner)) (r : Returning) (h : ℕ) (call : Call) → IsSoundBy w rows → (first : IsFirstTold w r) → first.statement.what ≡ OnHandle h call → (t : IsHandleTold w rows h r) →
+pub own_call : (w : WorldState) (rows : List (List Inner)) (r : Returning) (h : ℕ) (call : Call) → IsSoundBy w rows → (first : IsFirstTold w r) → first.statement.what ≡ OnHandle h call → (t : IsHandleTold w rows h r) →
     (t.told.line ≡ first.statement.line) × (t.told.call ≡ call)
 own_call w rows r h call sound first what t =
     let n : ℕ = r.reply.who in
@@ -541,7 +535,7 @@ answers_now w rows r (OnHandle h call) sound first what quiet =
 
 -- ---- behind the events that come first
 
-pumps_sound : (k : ℕ) (w u : WorldState) → IsSound w → Leads w (replicate k Pump) u → IsSound u
+pub pumps_sound : (k : ℕ) (w u : WorldState) → IsSound w → Leads w (replicate k Pump) u → IsSound u
 pumps_sound zero w u sound same = subst IsSound (sym same) sound
 pumps_sound (suc k) w u sound (next, steps, rest) = pumps_sound k next u (pump_keeps w next sound steps) rest
 

@@ -1,19 +1,16 @@
 -- In a sound world each event can be taken in its turn.
-use Rattle.std.proofs.Common.{◌≡◌, ◌⊎◌, ◌≢◌, ℕ, zero, suc, ◌+◌, ◌*◌, ◌<◌, ◌≤◌, Bool, true, false, not, List, [], ◌∷◌, ◌++◌, Option, Some, None, length, get_or, is_some, refl, sym, ap, ◌∙◌, subst, arith, inl, inr, eqb, cond, if◌then◌else◌}
-use Rattle.std.specs.Prelude.{◌&&◌, IsSome, sum_by}
-use Rattle.std.specs.List.{All, Contains, filter}
-use Rattle.std.proofs.lemmas.Bool.{false≢true, true≢false, cases_Bool, cases_eq, cases_lt, cond-true, cond-false, eq-eqb, ne_eqb, eqb-true, and_parts}
+use Rattle.std.proofs.Common.{◌≡◌, ◌⊎◌, ◌≢◌, ℕ, zero, suc, ◌+◌, ◌*◌, ◌<◌, ◌≤◌, Bool, true, false, not, List, [], ◌∷◌, Option, Some, None, length, refl, sym, ap, ◌∙◌, subst, arith, inl, inr, eqb, cond}
+use Rattle.std.specs.Prelude.{IsSome}
+use Rattle.std.specs.List.{All, Contains}
+use Rattle.std.proofs.lemmas.Bool.{false≢true, cond-true, eq-eqb, eqb-true, and_parts}
 use Rattle.std.proofs.lemmas.List.Elements.{All-head, All-tail, All-nil, All-cons, All-contains}
-use Rattle.std.proofs.lemmas.Option.{none-some, same_Some}
+use Rattle.std.proofs.lemmas.Option.{same_Some}
 use Rattle.vm_home.specs.Moves.{is_stopping}
-use Rattle.vm_home.specs.Reached.{IsReached}
-use Rattle.vm_wire.specs.Message.{Posting, Returning}
 use Rattle.vm_wire.specs.declared.delivery.Delivery.{Delivery}
-use Rattle.vm_pump.specs.Pump.{handle_room}
-use Rattle.vm_guest.specs.Events.{holds_back as guest_holds, is_overtaken, taken, events_of, CanTake, CanTakeBy, CanTakeAt, CanTakeAll}
-use Rattle.vm_guest.specs.Guest.{GuestState, process_at, handle_seated, seat_of}
+use Rattle.vm_guest.specs.Events.{holds_back as guest_holds, is_overtaken, events_of, CanTake, CanTakeBy, CanTakeAt, CanTakeAll}
+use Rattle.vm_guest.specs.Guest.{GuestState, process_at, seat_of}
 use Rattle.vm_guest.specs.Orderly.{IsOrderly, IsSeat, lines_at}
-use Rattle.vm_guest.specs.Process.{ProcessState, current_call, crossing_call, handle_at}
+use Rattle.vm_guest.specs.Process.{current_call, crossing_call, handle_at}
 use Rattle.vm_guest.specs.declared.asked.Asked.{Asked as AskedCall}
 use Rattle.vm_guest.specs.declared.seat.Seat.{Seat}
 use Rattle.vm_guest.proofs.OrderlyLemmas.{seat_within}
@@ -22,7 +19,7 @@ use Rattle.vm_realm.specs.Inner.{Inner}
 use Rattle.vm_realm.specs.Slice.{Slice, events_for, is_on, out_at, slice_at}
 use Rattle.vm_realm.specs.SliceSteps.{holds_back}
 use Rattle.vm_realm.specs.Sound.{HoldsFew, IsSoundSlice, IsSoundBy, IsSound, IsHandle, id_at, inner_at}
-use Rattle.vm_realm.proofs.FrameLemmas.{has_handle, handle_there, own_first}
+use Rattle.vm_realm.proofs.FrameLemmas.{handle_there, own_first}
 use Rattle.vm_realm.proofs.TakeLemmas.{SeatedEvent, seated_event, id_kept, holds_by}
 use Rattle.vm_realm.proofs.ListLemmas.{in_front, behind_first}
 use Rattle.vm_realm.proofs.MoveLemmas.{on_one}

@@ -1,12 +1,11 @@
 -- A reply that is collected moves the slice of its handle; that to a raw line moves none.
-use Rattle.std.proofs.Common.{◌≡◌, ◌⊎◌, ℕ, zero, suc, ◌+◌, ◌<◌, ◌≤◌, Bool, true, false, not, List, [], ◌∷◌, ◌++◌, Option, Some, None, is_some, length, get_or, set, refl, sym, ap, ◌∙◌, subst, arith, inl, inr, eqb, cond, if◌then◌else◌}
-use Rattle.std.specs.Prelude.{slice_get, ◌&&◌}
+use Rattle.std.proofs.Common.{◌≡◌, ◌⊎◌, ℕ, ◌+◌, ◌<◌, Bool, true, false, not, List, [], ◌∷◌, Option, Some, None, is_some, length, set, refl, sym, ap, ◌∙◌, subst, arith, inl, inr, eqb, cond, if◌then◌else◌}
+use Rattle.std.specs.Prelude.{◌&&◌}
 use Rattle.std.specs.List.{filter}
 use Rattle.std.specs.Option.{option_and_then}
 use Rattle.std.proofs.lemmas.Bool.{false≢true, cases_Bool, cases_eq, cond-true, cond-false, eq-eqb, ne_eqb, eqb-true, and_left}
 use Rattle.std.proofs.lemmas.List.{append-nil, length-set, nil_from_length, get_or-set_same, get_or-set_other}
-use Rattle.std.proofs.lemmas.Option.{none-some, same_Some, slice_get-get_or}
-use Rattle.vm_frame.specs.declared.mem.Held.{Held}
+use Rattle.std.proofs.lemmas.Option.{none-some, same_Some}
 use Rattle.vm_home.specs.Moves.{is_stopping}
 use Rattle.vm_link.specs.declared.link.Turn.TheVariants.{Did, Idle}
 use Rattle.vm_local.specs.declared.call.Call.{Call}
@@ -18,7 +17,7 @@ use Rattle.vm_log.specs.LegalLog.{state_of}
 use Rattle.vm_script.specs.declared.line.LineKind.{LineKind}
 use Rattle.vm_script.specs.declared.line.LineKind.TheVariants.{OnHandle, Raw}
 use Rattle.vm_script.specs.declared.line.RawChain.{RawChain}
-use Rattle.vm_wire.specs.Message.{Posting, Returning}
+use Rattle.vm_wire.specs.Message.{Returning}
 use Rattle.vm_wire.specs.Wire.{response_of}
 use Rattle.vm_wire.specs.declared.command.Command.{Command}
 use Rattle.vm_wire.specs.declared.command.Command.TheVariants.{OpenSession}
@@ -27,40 +26,37 @@ use Rattle.vm_wire.specs.declared.response.Response.{Response}
 use Rattle.vm_exchange.specs.Exchange.{IsAnswer, command_in, response_to}
 use Rattle.vm_handle.specs.Answers.{session_from, with_reply, delivered}
 use Rattle.vm_handle.specs.Handle.{HandleState, crossing_from}
-use Rattle.vm_handle.specs.declared.stage.Stage.{Stage}
 use Rattle.vm_handle.specs.declared.stage.Stage.TheVariants.{Underway}
 use Rattle.vm_guest.specs.Asking.{asked_by, asked_in, ends_with_events}
-use Rattle.vm_guest.specs.Events.{woken, told, told_at, all_told, events_of, events_of_others, caught_up, settled}
+use Rattle.vm_guest.specs.Events.{told, told_at, all_told, events_of, events_of_others, caught_up, settled}
 use Rattle.vm_guest.specs.Guest.{GuestState, no_process, process_in, process_at, with_process}
-use Rattle.vm_guest.specs.Lines.{MayAnswer, CallAnswered, RawAnswered, AnsweredFor, replied}
-use Rattle.vm_guest.specs.Orderly.{IsOrderly, IsOutAt}
-use Rattle.vm_guest.specs.Part.{Inbox, Outbox, none_if, CollectsFirst, CollectsFrom, Collects as GuestCollects}
+use Rattle.vm_guest.specs.Lines.{CallAnswered, RawAnswered, AnsweredFor}
+use Rattle.vm_guest.specs.Orderly.{IsOutAt}
+use Rattle.vm_guest.specs.Part.{Inbox, Outbox, CollectsFrom, Collects as GuestCollects}
 use Rattle.vm_guest.specs.Process.{ProcessState, is_crossing, is_blocked, is_answered_in, some_if, current, current_call, crossing, crossing_call, handle_at, with_handle, no_handle, rested}
-use Rattle.vm_guest.specs.Steps.{all_if, Collected}
+use Rattle.vm_guest.specs.Steps.{Collected}
 use Rattle.vm_guest.specs.declared.asked.Asked.{Asked as AskedCall}
 use Rattle.vm_guest.specs.declared.asked.Statement.{Statement}
 use Rattle.vm_guest.specs.declared.seat.Seat.{Seat}
-use Rattle.vm_guest.specs.declared.status.Status.{Status}
 use Rattle.vm_guest.specs.declared.status.Status.TheVariants.{AtRest, Crossing}
-use Rattle.vm_realm.specs.declared.step.Step.{Step}
 use Rattle.vm_realm.specs.declared.step.Step.TheVariants.{Collect}
 use Rattle.vm_realm.specs.World.{WorldState, jobs_out}
 use Rattle.vm_realm.specs.Inner.{Inner}
 use Rattle.vm_realm.specs.Steps.{inbox_of, after_driver, DriverDoes}
-use Rattle.vm_realm.specs.Slice.{Slice, Out, id_told, id_ahead, session_in, job_in, events_for, requests_of, calls_of, replies_of, out_from, out_of, is_on, out_at, slice_with, slice_at, SameEverywhere}
+use Rattle.vm_realm.specs.Slice.{Slice, id_told, id_ahead, session_in, job_in, events_for, requests_of, calls_of, replies_of, out_from, out_of, is_on, out_at, slice_with, slice_at, SameEverywhere}
 use Rattle.vm_realm.specs.Slice.Out.{Nowhere, Told}
-use Rattle.vm_realm.specs.SliceSteps.{all_delivered, Collects, SliceDoes, MovesOne, takes_by, takes_for, takes_all, TakesNone}
-use Rattle.vm_realm.specs.Sound.{IsSoundBy, IsHandle, id_at, out_count, one_if}
+use Rattle.vm_realm.specs.SliceSteps.{all_delivered, MovesOne, takes_by, takes_for, TakesNone}
+use Rattle.vm_realm.specs.Sound.{IsSoundBy, id_at, out_count, one_if}
 use Rattle.vm_realm.proofs.SumLemmas.{place_within}
 use Rattle.vm_realm.proofs.ProcessLemmas.{some_where, crossing_where}
-use Rattle.vm_realm.proofs.FrameLemmas.{SameParts, same_slice, has_handle}
+use Rattle.vm_realm.proofs.FrameLemmas.{same_slice, has_handle}
 use Rattle.vm_realm.proofs.LendLemmas.{nowhere, call_there}
 use Rattle.vm_realm.proofs.IssueLemmas.{MovesOrNone, none_first}
 use Rattle.vm_realm.proofs.TakeLemmas.{delivered_session}
 
 -- ---- what was held back is delivered to a process at rest
 
-all_delivered_session : (h : HandleState) (ds : List Delivery) → (all_delivered h ds).session ≡ h.session
+pub all_delivered_session : (h : HandleState) (ds : List Delivery) → (all_delivered h ds).session ≡ h.session
 all_delivered_session h [] = refl
 all_delivered_session h (d ∷ ds) = all_delivered_session (delivered h d.msg d.held) ds ∙ delivered_session h d.msg d.held
 
@@ -145,7 +141,7 @@ is_one w rows r rs sound is status =
       replies = mine ∙ ap (λ xs. r ∷ xs) rest;
     }
 
-others_told : (w : WorldState) (r : Returning) (rs : List Returning) (m : ℕ) → w.replies ≡ r ∷ rs → ¬ (m ≡ r.reply.who) → filter (λ (x : Returning). eqb x.reply.who m) rs ≡ replies_of w m
+pub others_told : (w : WorldState) (r : Returning) (rs : List Returning) (m : ℕ) → w.replies ≡ r ∷ rs → ¬ (m ≡ r.reply.who) → filter (λ (x : Returning). eqb x.reply.who m) rs ≡ replies_of w m
 others_told w r rs m is apart =
     sym (ap (filter (λ (x : Returning). eqb x.reply.who m)) is
     ∙ cond-false (eqb r.reply.who m) (r ∷ filter (λ (x : Returning). eqb x.reply.who m) rs) (filter (λ (x : Returning). eqb x.reply.who m) rs) (ne_eqb r.reply.who m (λ same. apart (sym same))))

@@ -1,16 +1,15 @@
 -- A command that the device does, or lets wait, moves the slice of its handle; that of a raw line moves none.
-use Rattle.std.proofs.Common.{◌≡◌, ◌⊎◌, ℕ, zero, suc, ◌+◌, ◌*◌, ◌<◌, ◌≤◌, ◌^◌, Bool, true, false, not, nat_lt, List, [], ◌∷◌, ◌++◌, Option, Some, None, Ok, Err, is_some, length, get_or, refl, sym, ap, ◌∙◌, subst, arith, inl, inr, eqb, cond, if◌then◌else◌, lit<}
-use Rattle.std.specs.Prelude.{◌&&◌, slice_get}
+use Rattle.std.proofs.Common.{◌≡◌, ◌⊎◌, ℕ, ◌+◌, ◌<◌, ◌≤◌, ◌^◌, Bool, true, false, nat_lt, List, [], ◌∷◌, ◌++◌, Option, Some, None, Ok, Err, length, get_or, refl, sym, ap, ◌∙◌, subst, arith, inl, inr, eqb, cond, if◌then◌else◌, lit<}
+use Rattle.std.specs.Prelude.{slice_get}
 use Rattle.std.specs.List.{All, Contains, filter, find}
 use Rattle.std.specs.Option.{option_and_then, option_to_list}
-use Rattle.std.proofs.lemmas.Bool.{false≢true, true≢false, cases_Bool, cases_eq, cases_lt, cond-true, cond-false, eq-eqb, ne_eqb, eqb-true}
+use Rattle.std.proofs.lemmas.Bool.{false≢true, true≢false, cases_Bool, cases_eq, cond-true, cond-false, eq-eqb, ne_eqb, eqb-true}
 use Rattle.std.proofs.lemmas.List.{append-nil, length-map, nil_from_length}
 use Rattle.std.proofs.lemmas.List.Elements.{filter-append, All-contains, All-get_or}
 use Rattle.std.proofs.lemmas.Option.{none-some, same_Some, slice_get-get_or}
 use Rattle.v4l_const.specs.Errno.{errno_number}
 use Rattle.v4l_const.specs.declared.errno.Errno.TheVariants.{Enomem}
 use Rattle.vm_frame.specs.declared.mem.Held.{Held}
-use Rattle.vm_local.specs.declared.bound.Bound.{Bound}
 use Rattle.vm_local.specs.declared.call.Call.{Call}
 use Rattle.vm_local.specs.declared.call.Call.TheVariants.{OpenHandle}
 use Rattle.vm_local.specs.declared.reply.Reply.TheVariants.{Done}
@@ -22,7 +21,7 @@ use Rattle.vm_script.specs.declared.line.LineKind.TheVariants.{OnHandle, Raw}
 use Rattle.vm_script.specs.declared.line.RawChain.{RawChain}
 use Rattle.vm_wire.specs.Message.{Ask, Posting, Returning}
 use Rattle.vm_wire.specs.Message.Ask.{Unusable, Judged}
-use Rattle.vm_wire.specs.Wire.{response_bytes, response_of, ReadsBack}
+use Rattle.vm_wire.specs.Wire.{response_bytes, response_of}
 use Rattle.vm_wire.specs.declared.command.Command.{Command}
 use Rattle.vm_wire.specs.declared.command.Command.TheVariants.{OpenSession}
 use Rattle.vm_wire.specs.declared.response.Response.{Response}
@@ -30,39 +29,36 @@ use Rattle.vm_wire.specs.declared.response.Response.TheVariants.{Opened, Refused
 use Rattle.vm_wire.proofs.WireLemmas.{response_again}
 use Rattle.vm_exchange.specs.declared.crossing.Crossing.{Crossing as CrossingOf}
 use Rattle.vm_handle.specs.Answers.{session_from}
-use Rattle.vm_handle.specs.Handle.{HandleState, crossing_from, id_of}
-use Rattle.vm_handle.specs.declared.stage.Stage.{Stage}
+use Rattle.vm_handle.specs.Handle.{HandleState, crossing_from}
 use Rattle.vm_handle.specs.declared.stage.Stage.TheVariants.{Underway}
 use Rattle.vm_device.specs.Device.{DeviceState, session_of, is_at_rest}
 use Rattle.vm_device.specs.Perform.{Answer, Performs, opened, must_wait}
 use Rattle.vm_host.specs.Chains.{named_session}
-use Rattle.vm_host.specs.Part.{Part, Call as WaitingCall, call_for, returning, Completed, ExecutedCommand, ExecutedAsk, Executed, ResumedCall, Resumed}
+use Rattle.vm_host.specs.Part.{Part, Call as WaitingCall, call_for, returning, ExecutedCommand, ExecutedAsk, Executed, ResumedCall}
 use Rattle.vm_host.specs.Waiting.{put_in, taken_out}
 use Rattle.vm_guest.specs.Asking.{asked_by, asked_in}
 use Rattle.vm_guest.specs.Guest.{no_process, process_at}
-use Rattle.vm_guest.specs.Message.{OfCall, OfRaw, posting_of}
-use Rattle.vm_guest.specs.Orderly.{IsOrderly, IsOut as IsCallOut, IsOutAt, lines_at}
+use Rattle.vm_guest.specs.Message.{OfRaw, posting_of}
+use Rattle.vm_guest.specs.Orderly.{IsOrderly, lines_at}
 use Rattle.vm_guest.specs.Process.{ProcessState, begun, is_at_rest as rests, is_crossing, current, current_call, some_if, crossing, crossing_call, handle_at}
 use Rattle.vm_guest.specs.Raw.{raw_ask}
 use Rattle.vm_guest.specs.declared.asked.Asked.{Asked as AskedCall}
 use Rattle.vm_guest.specs.declared.asked.Statement.{Statement}
 use Rattle.vm_guest.specs.declared.status.Status.{Status}
 use Rattle.vm_guest.specs.declared.status.Status.TheVariants.{AtRest, Crossing, Blocked, Lent}
-use Rattle.vm_realm.specs.declared.step.Step.{Step}
 use Rattle.vm_realm.specs.declared.step.Step.TheVariants.{Execute, Resume}
-use Rattle.vm_realm.specs.World.{WorldState, jobs_out}
+use Rattle.vm_realm.specs.World.{WorldState}
 use Rattle.vm_realm.specs.Inner.{Inner}
 use Rattle.vm_realm.specs.Steps.{after_device, DoesExecute, DoesResume}
 use Rattle.vm_realm.specs.Slice.{Slice, Out, id_told, id_ahead, session_in, job_in, events_for, requests_of, calls_of, replies_of, out_from, out_of, is_on, out_at, slice_with, slice_at, SameEverywhere, SameElsewhere}
 use Rattle.vm_realm.specs.Slice.Out.{Nowhere, Asked, Kept, Told, Astray}
-use Rattle.vm_realm.specs.SliceSteps.{told_by, IsDeviceOf, IsServed, IsServedUnless, Executes, Resumes, MovesOne, IsFirst}
-use Rattle.vm_realm.specs.Sound.{IsPosted, IsKept, IsOut, NothingExecuted, IsSoundSlice, IsSoundBy, IsHandle, IsRawOut, IsLineOut, IsRefused, CanRun, NamesNone, id_at, inner_at, out_count, one_if}
+use Rattle.vm_realm.specs.SliceSteps.{told_by, IsDeviceOf, IsServedUnless, MovesOne, IsFirst}
+use Rattle.vm_realm.specs.Sound.{IsPosted, IsOut, IsSoundSlice, IsSoundBy, IsHandle, IsRawOut, IsLineOut, IsRefused, CanRun, NamesNone, id_at, inner_at, out_count, one_if}
 use Rattle.vm_realm.proofs.SumLemmas.{place_within}
 use Rattle.vm_realm.proofs.PartLemmas.{find_in}
 use Rattle.vm_realm.proofs.DeviceLemmas.{performs_adds}
-use Rattle.vm_realm.proofs.FrameLemmas.{SameParts, same_slice, has_handle, handle_there}
-use Rattle.vm_realm.proofs.MoveLemmas.{at_of, on_one, kept_who, kept_from, filtered_in}
-use Rattle.vm_realm.proofs.ListLemmas.{contains_filter}
+use Rattle.vm_realm.proofs.FrameLemmas.{same_slice, has_handle, handle_there}
+use Rattle.vm_realm.proofs.MoveLemmas.{at_of, kept_who}
 use Rattle.vm_realm.proofs.WaitingLemmas.{command_same}
 use Rattle.vm_realm.proofs.LendLemmas.{line_at, call_there}
 use Rattle.vm_realm.proofs.IssueLemmas.{MovesOrNone}
@@ -128,24 +124,24 @@ command_own w n h host ms rs o c same =
 
 -- ---- lists of the link
 
-own_more : (rs : List Returning) (n : ℕ) (r : Returning) → r.reply.who ≡ n → filter (λ (y : Returning). eqb y.reply.who n) (rs ++ r ∷ []) ≡ filter (λ (y : Returning). eqb y.reply.who n) rs ++ r ∷ []
+pub own_more : (rs : List Returning) (n : ℕ) (r : Returning) → r.reply.who ≡ n → filter (λ (y : Returning). eqb y.reply.who n) (rs ++ r ∷ []) ≡ filter (λ (y : Returning). eqb y.reply.who n) rs ++ r ∷ []
 own_more rs n r who =
     filter-append (λ (y : Returning). eqb y.reply.who n) rs (r ∷ [])
     ∙ ap (λ ys. filter (λ (y : Returning). eqb y.reply.who n) rs ++ ys) (cond-true (eqb r.reply.who n) (r ∷ []) [] (eq-eqb r.reply.who n who))
 
-others_more : (rs : List Returning) (n i : ℕ) (r : Returning) → r.reply.who ≡ n → ¬ (i ≡ n) → filter (λ (y : Returning). eqb y.reply.who i) (rs ++ r ∷ []) ≡ filter (λ (y : Returning). eqb y.reply.who i) rs
+pub others_more : (rs : List Returning) (n i : ℕ) (r : Returning) → r.reply.who ≡ n → ¬ (i ≡ n) → filter (λ (y : Returning). eqb y.reply.who i) (rs ++ r ∷ []) ≡ filter (λ (y : Returning). eqb y.reply.who i) rs
 others_more rs n i r who apart =
     filter-append (λ (y : Returning). eqb y.reply.who i) rs (r ∷ [])
     ∙ (ap (λ ys. filter (λ (y : Returning). eqb y.reply.who i) rs ++ ys) (cond-false (eqb r.reply.who i) (r ∷ []) [] (ne_eqb r.reply.who i (λ same. apart (sym same ∙ who))))
     ∙ append-nil (filter (λ (y : Returning). eqb y.reply.who i) rs))
 
-others_first : (w : WorldState) (m : Posting) (ms : List Posting) (i : ℕ) → w.requests ≡ m ∷ ms → ¬ (i ≡ m.request.who) → filter (λ (y : Posting). eqb y.request.who i) ms ≡ requests_of w i
+pub others_first : (w : WorldState) (m : Posting) (ms : List Posting) (i : ℕ) → w.requests ≡ m ∷ ms → ¬ (i ≡ m.request.who) → filter (λ (y : Posting). eqb y.request.who i) ms ≡ requests_of w i
 others_first w m ms i is apart =
     sym (ap (filter (λ (y : Posting). eqb y.request.who i)) is
     ∙ cond-false (eqb m.request.who i) (m ∷ filter (λ (y : Posting). eqb y.request.who i) ms) (filter (λ (y : Posting). eqb y.request.who i) ms) (ne_eqb m.request.who i (λ same. apart (sym same))))
 
 -- a call that is put in
-put_off : {A : Type 0} (p : A → Bool) (number : A → ℕ) (x : A) (xs : List A) → p x ≡ false → filter p (put_in number x xs) ≡ filter p xs
+pub put_off : {A : Type 0} (p : A → Bool) (number : A → ℕ) (x : A) (xs : List A) → p x ≡ false → filter p (put_in number x xs) ≡ filter p xs
 put_off p number x [] fails = cond-false (p x) (x ∷ []) [] fails
 put_off {A = A} p number x (y ∷ ys) fails = by_test (nat_lt (number y) (number x)) (put_off p number x ys fails)
   where
@@ -153,7 +149,7 @@ put_off {A = A} p number x (y ∷ ys) fails = by_test (nat_lt (number y) (number
     by_test true rest = ap (λ zs. cond (p y) (y ∷ zs) zs) rest
     by_test false rest = cond-false (p x) (x ∷ filter p (y ∷ ys)) (filter p (y ∷ ys)) fails
 
-put_own : {A : Type 0} (p : A → Bool) (number : A → ℕ) (x : A) (xs : List A) → p x ≡ true → filter p xs ≡ [] → filter p (put_in number x xs) ≡ x ∷ []
+pub put_own : {A : Type 0} (p : A → Bool) (number : A → ℕ) (x : A) (xs : List A) → p x ≡ true → filter p xs ≡ [] → filter p (put_in number x xs) ≡ x ∷ []
 put_own p number x [] passes none = cond-true (p x) (x ∷ []) [] passes
 put_own {A = A} p number x (y ∷ ys) passes none =
     elim (cases_Bool (p y)) [
@@ -171,7 +167,7 @@ put_own {A = A} p number x (y ∷ ys) passes none =
         ∙ ap (λ zs. x ∷ zs) (cond-false (p y) (y ∷ filter p ys) (filter p ys) later ∙ rest)
 
 -- a call that is taken out
-out_off : {A : Type 0} (p : A → Bool) (number : A → ℕ) (k : ℕ) (x : A) (xs : List A) → find (λ y. eqb (number y) k) xs ≡ Some x → p x ≡ false → filter p (taken_out number k xs) ≡ filter p xs
+pub out_off : {A : Type 0} (p : A → Bool) (number : A → ℕ) (k : ℕ) (x : A) (xs : List A) → find (λ y. eqb (number y) k) xs ≡ Some x → p x ≡ false → filter p (taken_out number k xs) ≡ filter p xs
 out_off p number k x [] finds fails = refl
 out_off {A = A} p number k x (y ∷ ys) finds fails = by_test (eqb (number y) k) finds (λ rest. out_off p number k x ys rest fails)
   where
@@ -180,7 +176,7 @@ out_off {A = A} p number k x (y ∷ ys) finds fails = by_test (eqb (number y) k)
     by_test true finds rest = sym (cond-false (p y) (y ∷ filter p ys) (filter p ys) (ap p (same_Some y x finds) ∙ fails))
     by_test false finds rest = ap (λ zs. cond (p y) (y ∷ zs) zs) (rest finds)
 
-out_own : {A : Type 0} (p : A → Bool) (number : A → ℕ) (k : ℕ) (x : A) (xs : List A) → find (λ y. eqb (number y) k) xs ≡ Some x → p x ≡ true → length (filter p (taken_out number k xs)) + 1 ≡ length (filter p xs)
+pub out_own : {A : Type 0} (p : A → Bool) (number : A → ℕ) (k : ℕ) (x : A) (xs : List A) → find (λ y. eqb (number y) k) xs ≡ Some x → p x ≡ true → length (filter p (taken_out number k xs)) + 1 ≡ length (filter p xs)
 out_own p number k x [] finds passes = absurd (none-some x finds)
 out_own {A = A} p number k x (y ∷ ys) finds passes = by_test (eqb (number y) k) finds (λ rest. out_own p number k x ys rest passes)
   where
@@ -197,11 +193,11 @@ out_own {A = A} p number k x (y ∷ ys) finds passes = by_test (eqb (number y) k
 
 -- ---- the id that a reply brings
 
-kept_session : (session : Option ℕ) (call : Call) (response : Response) → ((nonblock : Bool) → ¬ (call ≡ OpenHandle nonblock)) → session_from session call Done response ≡ session
+pub kept_session : (session : Option ℕ) (call : Call) (response : Response) → ((nonblock : Bool) → ¬ (call ≡ OpenHandle nonblock)) → session_from session call Done response ≡ session
 kept_session session (OpenHandle nonblock) response other = absurd (other nonblock refl)
 kept_session session call response other = refl
 
-open_or_not : (call : Call) → ((nonblock : Bool) × (call ≡ OpenHandle nonblock)) ⊎ ((nonblock : Bool) → ¬ (call ≡ OpenHandle nonblock))
+pub open_or_not : (call : Call) → ((nonblock : Bool) × (call ≡ OpenHandle nonblock)) ⊎ ((nonblock : Bool) → ¬ (call ≡ OpenHandle nonblock))
 open_or_not (OpenHandle nonblock) = inl (nonblock, refl)
 open_or_not call = inr (λ nonblock same. cc)
 
@@ -212,7 +208,7 @@ open_told : (d : DeviceState) (memory nonblock : Bool) (held : List Held) → le
 open_told d true nonblock held small = inl (ap (session_from None (OpenHandle nonblock) Done) (response_again OpenSession (Opened (length d.sessions)) small).1)
 open_told d false nonblock held small = inr (ap (session_from None (OpenHandle nonblock) Done) (response_again OpenSession (Denied (errno_number Enomem)) (lit< tt, lit< tt)).1)
 
-told_id : (hd : HandleState) (line : ℕ) (call : Call) (r : Returning) → hd.stage ≡ Underway line call → id_ahead hd (Told r) ≡ session_from hd.session call Done (response_of OpenSession r.reply.bytes)
+pub told_id : (hd : HandleState) (line : ℕ) (call : Call) (r : Returning) → hd.stage ≡ Underway line call → id_ahead hd (Told r) ≡ session_from hd.session call Done (response_of OpenSession r.reply.bytes)
 told_id hd line call r under = ap (λ t. id_told t hd.session r) under
 
 open_command : (h : HandleState) (nonblock : Bool) (x : CrossingOf) → crossing_from h (OpenHandle nonblock) ≡ Some x → x.command ≡ OpenSession
@@ -254,7 +250,7 @@ told_same w rows x m c a sound posted asks does = elim (open_or_not posted.call)
 -- ---- the other sessions
 
 -- no other handle has the session that the command names
-others_stay : (w : WorldState) (rows : List (List Inner)) (n h : ℕ) (m : Posting) (c : Command) (a : Answer) → IsSoundBy w rows → IsHandle w n h → IsPosted (slice_at w n h) m → id_at w n h ≡ (handle_at (process_at w.guest n) h).session →
+pub others_stay : (w : WorldState) (rows : List (List Inner)) (n h : ℕ) (m : Posting) (c : Command) (a : Answer) → IsSoundBy w rows → IsHandle w n h → IsPosted (slice_at w n h) m → id_at w n h ≡ (handle_at (process_at w.guest n) h).session →
     m.request.asks ≡ Judged (Ok c) → Performs w.host.device c m.behind m.held a → (i k : ℕ) → ¬ ((i ≡ n) × (k ≡ h)) → session_in a.device (id_at w i k) ≡ session_in w.host.device (id_at w i k)
 others_stay w rows n h m c a sound named posted own asks does i k other = by_id (id_at w i k) refl
   where
@@ -286,16 +282,37 @@ device_of w rows n h sound named none own = record {
   model = sound.device.model ∙ sym (log_model w rows n h sound named);
   session = ap (session_in w.host.device) (sym own);
   ranges = λ b addr len writable there kind. mapping_live w rows n h sound named none b addr len writable there kind;
+  low = sound.mapped.low;
 }
 
 -- ---- a command is done
 
--- the command that this handle posted is done
-served : (w : WorldState) (rows : List (List Inner)) (n h : ℕ) (m : Posting) (c : Command) (a : Answer) (host : Part) (ms : List Posting) (rs : List Returning) → IsSoundBy w rows → IsHandle w n h → IsPosted (slice_at w n h) m →
+-- The command that this handle posted is done: no other handle's slice changes.
+pub record Serves (w u : WorldState) (rows : List (List Inner)) (n h : ℕ) : Type 0 where
+  pub message : Posting
+  pub command : Command
+  pub answer : Answer
+  pub named : IsHandle w n h
+  pub nothing : (inner_at w rows n h).executed ≡ None
+  pub own : id_at w n h ≡ (handle_at (process_at w.guest n) h).session
+  pub out : (out_at w n h ≡ Asked message) ⊎ (out_at w n h ≡ Kept message)
+  pub posted : IsPosted (slice_at w n h) message
+  pub asks : message.request.asks ≡ Judged (Ok command)
+  pub performs : Performs w.host.device command message.behind message.held answer
+  pub slice : slice_at u n h ≡ record (slice_at w n h) {
+    out = Told (told_by message answer);
+    session = session_in answer.device (id_ahead (handle_at (process_at w.guest n) h) (Told (told_by message answer)));
+  }
+  pub others : SameElsewhere n h w u
+  pub device : u.host.device ≡ answer.device
+  pub guest : u.guest ≡ w.guest
+  pub script : u.script ≡ w.script
+
+serves : (w : WorldState) (rows : List (List Inner)) (n h : ℕ) (m : Posting) (c : Command) (a : Answer) (host : Part) (ms : List Posting) (rs : List Returning) → IsSoundBy w rows → IsHandle w n h → (inner_at w rows n h).executed ≡ None →
+    (out_at w n h ≡ Asked m) ⊎ (out_at w n h ≡ Kept m) → IsPosted (slice_at w n h) m →
     id_at w n h ≡ (handle_at (process_at w.guest n) h).session → m.request.asks ≡ Judged (Ok c) → Performs w.host.device c m.behind m.held a → host.device ≡ a.device → is_on (crossing_call (process_at w.guest n)) h ≡ true →
-    out_of (commanded w host ms rs) n ≡ Told (told_by m a) → ((i : ℕ) → ¬ (i ≡ n) → out_of (commanded w host ms rs) i ≡ out_of w i) →
-    IsServed m c w.host.device (slice_at w n h) (slice_at (commanded w host ms rs) n h) × SameElsewhere n h w (commanded w host ms rs)
-served w rows n h m c a host ms rs sound named posted own asks does is on out others =
+    out_of (commanded w host ms rs) n ≡ Told (told_by m a) → ((i : ℕ) → ¬ (i ≡ n) → out_of (commanded w host ms rs) i ≡ out_of w i) → Serves w (commanded w host ms rs) rows n h
+serves w rows n h m c a host ms rs sound named nothing at posted own asks does is on out others =
     let x : Slice = slice_at w n h in
     let moves : Commands w n h host ms rs (Told (told_by m a)) = record {
       on = on;
@@ -304,10 +321,24 @@ served w rows n h m c a host ms rs sound named posted own asks does is on out ot
       sessions = λ i k other. ap (λ d. session_in d (id_at w i k)) is ∙ others_stay w rows n h m c a sound named posted own asks does i k other;
       jobs = ap (λ (d : DeviceState). d.jobs) is ∙ (performs_adds w.host.device c m.behind m.held a does).jobs;
     } in
-    let same : SameFor w (id_at w n h) (id_ahead x.handle (Told (told_by m a))) = subst (λ o. SameFor w o (id_ahead x.handle (Told (told_by m a)))) (sym own) (told_same w rows x m c a sound posted asks does) in (
-      (a, does, command_own w n h host ms rs (Told (told_by m a)) moves same ∙ (λ j. record x { out = Told (told_by m a); session = session_in (is j) (id_ahead x.handle (Told (told_by m a))) })),
-      command_others w n h host ms rs (Told (told_by m a)) moves,
-    )
+    let same : SameFor w (id_at w n h) (id_ahead x.handle (Told (told_by m a))) = subst (λ o. SameFor w o (id_ahead x.handle (Told (told_by m a)))) (sym own) (told_same w rows x m c a sound posted asks does) in
+    record {
+      message = m;
+      command = c;
+      answer = a;
+      named = named;
+      nothing = nothing;
+      own = own;
+      out = at;
+      posted = posted;
+      asks = asks;
+      performs = does;
+      slice = command_own w n h host ms rs (Told (told_by m a)) moves same ∙ (λ j. record x { out = Told (told_by m a); session = session_in (is j) (id_ahead x.handle (Told (told_by m a))) });
+      others = command_others w n h host ms rs (Told (told_by m a)) moves;
+      device = is;
+      guest = refl;
+      script = refl;
+    }
 
 -- ---- the first request
 
@@ -415,9 +446,10 @@ handle_asked w rows m ms h call sound is first what =
     }
 
 -- where the command waits
-waits_moves : (w : WorldState) (rows : List (List Inner)) (m : Posting) (ms : List Posting) (h session : ℕ) (c : Command) → IsSoundBy w rows → w.requests ≡ m ∷ ms → IsFirstAsked w m ms → IsHandleAsked w rows h m →
-    m.request.asks ≡ Judged (Ok c) → must_wait w.host.device c ≡ true → MovesOne Execute w (commanded w (record w.host { calls = put_in (λ (y : WaitingCall). y.session) (record { session = session; posting = m }) w.host.calls }) ms w.replies)
-waits_moves w rows m ms h session c sound is first a asks waits =
+waits_slices : (w : WorldState) (rows : List (List Inner)) (m : Posting) (ms : List Posting) (h session : ℕ) → IsSoundBy w rows → w.requests ≡ m ∷ ms → IsFirstAsked w m ms → IsHandleAsked w rows h m →
+    (slice_at (commanded w (record w.host { calls = put_in (λ (y : WaitingCall). y.session) (record { session = session; posting = m }) w.host.calls }) ms w.replies) m.request.who h ≡ record (slice_at w m.request.who h) { out = Kept m })
+    × SameElsewhere m.request.who h w (commanded w (record w.host { calls = put_in (λ (y : WaitingCall). y.session) (record { session = session; posting = m }) w.host.calls }) ms w.replies)
+waits_slices w rows m ms h session sound is first a =
     let n : ℕ = m.request.who in
     let call : WaitingCall = record { session = session; posting = m } in
     let host : Part = record w.host { calls = put_in (λ (y : WaitingCall). y.session) call w.host.calls } in
@@ -434,37 +466,58 @@ waits_moves w rows m ms h session c sound is first a asks waits =
       jobs = refl;
     } in
     let moved : slice_at v n h ≡ record x { out = Kept m; session = session_in w.host.device hd.session } = command_own w n h host ms w.replies (Kept m) moves (same_for w (id_at w n h) hd.session (sym a.own)) in
-    let kept : slice_at v n h ≡ record x { out = Kept m } = moved ∙ (λ j. record x { out = Kept m; session = session_in w.host.device (sym a.own j) }) in
+    (moved ∙ (λ j. record x { out = Kept m; session = session_in w.host.device (sym a.own j) }), command_others w n h host ms w.replies (Kept m) moves)
+
+waits_moves : (w : WorldState) (rows : List (List Inner)) (m : Posting) (ms : List Posting) (h session : ℕ) (c : Command) → IsSoundBy w rows → w.requests ≡ m ∷ ms → IsFirstAsked w m ms → IsHandleAsked w rows h m →
+    m.request.asks ≡ Judged (Ok c) → must_wait w.host.device c ≡ true → MovesOne Execute w (commanded w (record w.host { calls = put_in (λ (y : WaitingCall). y.session) (record { session = session; posting = m }) w.host.calls }) ms w.replies)
+waits_moves w rows m ms h session c sound is first a asks waits =
+    let n : ℕ = m.request.who in
+    let v : WorldState = commanded w (record w.host { calls = put_in (λ (y : WaitingCall). y.session) (record { session = session; posting = m }) w.host.calls }) ms w.replies in
+    let x : Slice = slice_at w n h in
+    let both : _ = waits_slices w rows m ms h session sound is first a in
     record {
       process = n;
       handle = h;
-      does = (m, c, w.host.device, a.out, asks, device_of w rows n h sound a.named a.nothing a.own, subst (λ b. IsServedUnless b m c w.host.device x (slice_at v n h)) (sym waits) kept);
-      others = command_others w n h host ms w.replies (Kept m) moves;
+      does = (m, c, w.host.device, a.out, asks, device_of w rows n h sound a.named a.nothing a.own, subst (λ b. IsServedUnless b m c w.host.device x (slice_at v n h)) (sym waits) both.0);
+      others = both.1;
     }
 
 -- where it is done
-done_moves : (w : WorldState) (rows : List (List Inner)) (m : Posting) (ms : List Posting) (h : ℕ) (c : Command) (a : Answer) → IsSoundBy w rows → w.requests ≡ m ∷ ms → IsFirstAsked w m ms → IsHandleAsked w rows h m →
-    m.request.asks ≡ Judged (Ok c) → must_wait w.host.device c ≡ false → Performs w.host.device c m.behind m.held a → MovesOne Execute w (commanded w (record w.host { device = a.device }) ms (w.replies ++ told_by m a ∷ []))
-done_moves w rows m ms h c a sound is first at asks goes does =
+done_serves : (w : WorldState) (rows : List (List Inner)) (m : Posting) (ms : List Posting) (h : ℕ) (c : Command) (a : Answer) → IsSoundBy w rows → w.requests ≡ m ∷ ms → IsFirstAsked w m ms → IsHandleAsked w rows h m →
+    m.request.asks ≡ Judged (Ok c) → Performs w.host.device c m.behind m.held a → Serves w (commanded w (record w.host { device = a.device }) ms (w.replies ++ told_by m a ∷ [])) rows m.request.who h
+done_serves w rows m ms h c a sound is first at asks does =
     let n : ℕ = m.request.who in
     let r : Returning = told_by m a in
     let host : Part = record w.host { device = a.device } in
     let rs : List Returning = w.replies ++ r ∷ [] in
     let v : WorldState = commanded w host ms rs in
-    let x : Slice = slice_at w n h in
     let replies : replies_of v n ≡ r ∷ [] = own_more w.replies n r refl ∙ ap (λ ys. ys ++ r ∷ []) first.replies in
     let out : out_of v n ≡ Told r = λ j. out_from (first.requests j) (first.calls j) (replies j) in
     let others : (i : ℕ) → ¬ (i ≡ n) → out_of v i ≡ out_of w i = λ i apart. λ j. out_from (others_first w m ms i is apart j) (calls_of w i) (others_more w.replies n i r refl apart j) in
-    let moves = served w rows n h m c a host ms rs sound at.named at.posted at.own asks does refl at.on out others in
+    serves w rows n h m c a host ms rs sound at.named at.nothing (inl at.out) at.posted at.own asks does refl at.on out others
+
+done_moves : (w u : WorldState) (rows : List (List Inner)) (h : ℕ) (m : Posting) → IsSoundBy w rows → IsHandleAsked w rows h m → (s : Serves w u rows m.request.who h) → m ≡ s.message → must_wait w.host.device s.command ≡ false → MovesOne Execute w u
+done_moves w u rows h m sound at s same goes =
+    let n : ℕ = m.request.who in
+    let x : Slice = slice_at w n h in
     record {
       process = n;
       handle = h;
-      does = (m, c, w.host.device, at.out, asks, device_of w rows n h sound at.named at.nothing at.own, subst (λ b. IsServedUnless b m c w.host.device x (slice_at v n h)) (sym goes) moves.0);
-      others = moves.1;
+      does = (
+        s.message,
+        s.command,
+        w.host.device,
+        at.out ∙ ap Asked same,
+        s.asks,
+        device_of w rows n h sound s.named s.nothing s.own,
+        subst (λ b. IsServedUnless b s.message s.command w.host.device x (slice_at u n h)) (sym goes) (s.answer, s.performs, s.slice),
+      );
+      others = s.others;
     }
 
-execute_command : (w : WorldState) (rows : List (List Inner)) (m : Posting) (ms : List Posting) (h : ℕ) (c : Command) (b : Bool) (out : Option Returning) (host : Part) → IsSoundBy w rows → w.requests ≡ m ∷ ms → IsFirstAsked w m ms → IsHandleAsked w rows h m →
+pub execute_command : (w : WorldState) (rows : List (List Inner)) (m : Posting) (ms : List Posting) (h : ℕ) (c : Command) (b : Bool) (out : Option Returning) (host : Part) → IsSoundBy w rows → w.requests ≡ m ∷ ms → IsFirstAsked w m ms → IsHandleAsked w rows h m →
     m.request.asks ≡ Judged (Ok c) → must_wait w.host.device c ≡ b → ExecutedCommand b m c w.host out host → MovesOne Execute w (after_device (record w { requests = ms }) host out)
+unfolding done_serves serves
 execute_command w rows m ms h c true out host sound is first a asks waits (none, (session, named, after)) =
     let rs : w.replies ++ option_to_list out ≡ w.replies = ap (λ o. w.replies ++ option_to_list o) none ∙ append-nil w.replies in
     let ends : after_device (record w { requests = ms }) host out ≡ commanded w (record w.host { calls = put_in (λ (y : WaitingCall). y.session) (record { session = session; posting = m }) w.host.calls }) ms w.replies =
@@ -474,7 +527,8 @@ execute_command w rows m ms h c false out host sound is first a asks goes (r, d,
     let answer : Answer = completed.0 in
     let ends : after_device (record w { requests = ms }) host out ≡ commanded w (record w.host { device = answer.device }) ms (w.replies ++ told_by m answer ∷ []) =
     (λ j. commanded w (after j) ms (w.replies ++ option_to_list (told j))) ∙ (λ j. commanded w (record w.host { device = completed.3 j }) ms (w.replies ++ completed.2 j ∷ [])) in
-    subst (MovesOne Execute w) (sym ends) (done_moves w rows m ms h c answer sound is first a asks goes completed.1)
+    subst (MovesOne Execute w) (sym ends)
+    (done_moves w (commanded w (record w.host { device = answer.device }) ms (w.replies ++ told_by m answer ∷ [])) rows h m sound a (done_serves w rows m ms h c answer sound is first a asks completed.1) refl goes)
 
 -- ---- Execute, of a raw line
 
@@ -537,7 +591,7 @@ raw_command w rows m ms chain c false out host sound is first what none goes (r,
     let same : d ≡ w.host.device = completed.3 ∙ refused_leaves w.host.device c m.behind m.held completed.0 (few_sessions w rows sound) none completed.1 in
     returned_one w m ms chain r out host is first what (ap (λ (y : Returning). y.reply.who) completed.2) told (after ∙ (λ j. record w.host { device = same j }))
 
-raw_ask_done : (w : WorldState) (rows : List (List Inner)) (m : Posting) (ms : List Posting) (chain : RawChain) (ask : Ask) (out : Option Returning) (host : Part) → IsSoundBy w rows → w.requests ≡ m ∷ ms → (first : IsFirstAsked w m ms) →
+pub raw_ask_done : (w : WorldState) (rows : List (List Inner)) (m : Posting) (ms : List Posting) (chain : RawChain) (ask : Ask) (out : Option Returning) (host : Part) → IsSoundBy w rows → w.requests ≡ m ∷ ms → (first : IsFirstAsked w m ms) →
     first.statement.what ≡ Raw chain → raw_ask chain ≡ ask → ExecutedAsk ask m w.host out host → SameEverywhere w (after_device (record w { requests = ms }) host out)
 raw_ask_done w rows m ms chain Unusable out host sound is first what asks (told, same) = returned_one w m ms chain (returning m [] m.held) out host is first what refl told same
 raw_ask_done w rows m ms chain (Judged (Err f)) out host sound is first what asks (told, same) = returned_one w m ms chain _ out host is first what refl told same
@@ -582,7 +636,7 @@ pub record IsOneKept (w : WorldState) (rows : List (List Inner)) (n h : ℕ) (ca
   pub replies : replies_of w n ≡ []
   pub calls : length (calls_of w n) ≡ 1
 
-kept_alone : (ms : List Posting) (cs : List WaitingCall) (rs : List Returning) (m : Posting) → out_from ms cs rs ≡ Kept m → (ms ≡ []) × (rs ≡ []) × (length cs ≡ 1)
+pub kept_alone : (ms : List Posting) (cs : List WaitingCall) (rs : List Returning) (m : Posting) → out_from ms cs rs ≡ Kept m → (ms ≡ []) × (rs ≡ []) × (length cs ≡ 1)
 kept_alone [] (c ∷ []) [] m is = (refl, refl, refl)
 kept_alone (x ∷ []) [] [] m is = absurd (not_asked x m is)
   where
@@ -624,16 +678,15 @@ one_kept w rows call sound there =
     } in
     (n, h, one)
 
-resumed_moves : (w : WorldState) (rows : List (List Inner)) (session n h : ℕ) (call : WaitingCall) (c : Command) (a : Answer) → IsSoundBy w rows → find (λ (y : WaitingCall). eqb y.session call.session) w.host.calls ≡ Some call → IsOneKept w rows n h call →
-    is_at_rest (session_of w.host.device call.session) ≡ true → call.posting.request.asks ≡ Judged (Ok c) → Performs w.host.device c call.posting.behind call.posting.held a →
-    MovesOne (Resume session) w (commanded w (record { device = a.device; calls = taken_out (λ (y : WaitingCall). y.session) call.session w.host.calls }) w.requests (w.replies ++ told_by call.posting a ∷ []))
-resumed_moves w rows session n h call c a sound finds k rest asks does =
+resumed_serves : (w : WorldState) (rows : List (List Inner)) (n h : ℕ) (call : WaitingCall) (c : Command) (a : Answer) → IsSoundBy w rows → find (λ (y : WaitingCall). eqb y.session call.session) w.host.calls ≡ Some call → IsOneKept w rows n h call →
+    call.posting.request.asks ≡ Judged (Ok c) → Performs w.host.device c call.posting.behind call.posting.held a →
+    Serves w (commanded w (record { device = a.device; calls = taken_out (λ (y : WaitingCall). y.session) call.session w.host.calls }) w.requests (w.replies ++ told_by call.posting a ∷ [])) rows n h
+resumed_serves w rows n h call c a sound finds k asks does =
     let m : Posting = call.posting in
     let r : Returning = told_by m a in
     let host : Part = record { device = a.device; calls = taken_out (λ (y : WaitingCall). y.session) call.session w.host.calls } in
     let rs : List Returning = w.replies ++ r ∷ [] in
     let v : WorldState = commanded w host w.requests rs in
-    let x : Slice = slice_at w n h in
     let replies : replies_of v n ≡ r ∷ [] = own_more w.replies n r k.who ∙ ap (λ ys. ys ++ r ∷ []) k.replies in
     let fewer = out_own (λ (y : WaitingCall). eqb y.posting.request.who n) (λ (y : WaitingCall). y.session) call.session call w.host.calls finds (eq-eqb m.request.who n k.who) in
     let calls : calls_of v n ≡ [] = nil_from_length (calls_of v n) (omega (arith, fewer, k.calls)) in
@@ -641,17 +694,23 @@ resumed_moves w rows session n h call c a sound finds k rest asks does =
     let others : (i : ℕ) → ¬ (i ≡ n) → out_of v i ≡ out_of w i = λ i apart. λ j. out_from (requests_of w i)
     (out_off (λ (y : WaitingCall). eqb y.posting.request.who i) (λ (y : WaitingCall). y.session) call.session call w.host.calls finds (ne_eqb m.request.who i (λ same. apart (sym same ∙ k.who))) j)
     (others_more w.replies n i r k.who apart j) in
-    let moves = served w rows n h m c a host w.requests rs sound k.named k.posted k.own asks does refl k.on out others in
+    serves w rows n h m c a host w.requests rs sound k.named k.nothing (inr k.out) k.posted k.own asks does refl k.on out others
+
+resumed_moves : (w u : WorldState) (rows : List (List Inner)) (session n h : ℕ) (call : WaitingCall) → IsSoundBy w rows → IsOneKept w rows n h call → is_at_rest (session_of w.host.device call.session) ≡ true → (s : Serves w u rows n h) → call.posting ≡ s.message →
+    MovesOne (Resume session) w u
+resumed_moves w u rows session n h call sound k rest s same =
+    let x : Slice = slice_at w n h in
     let quiet : is_at_rest x.session ≡ true = ap (λ o. is_at_rest (session_in w.host.device o)) k.id ∙ rest in
     record {
       process = n;
       handle = h;
-      does = (m, c, w.host.device, k.out, asks, device_of w rows n h sound k.named k.nothing k.own, quiet, moves.0);
-      others = moves.1;
+      does = (s.message, s.command, w.host.device, k.out ∙ ap Kept same, s.asks, device_of w rows n h sound s.named s.nothing s.own, quiet, (s.answer, s.performs, s.slice));
+      others = s.others;
     }
 
 resume_call : (w : WorldState) (rows : List (List Inner)) (session : ℕ) (o : Option WaitingCall) (r : Returning) (host : Part) → IsSoundBy w rows → call_for session w.host.calls ≡ o → is_at_rest (session_of w.host.device session) ≡ true → ResumedCall o w.host r host →
     MovesOne (Resume session) w (after_device w host (Some r))
+unfolding resumed_serves serves
 resume_call w rows session None r host sound finds rest does = absurd does
 resume_call w rows session (Some call) r host sound finds rest (c, d, asks, completed, after) =
     let there : _ = find_in (λ (y : WaitingCall). eqb y.session session) w.host.calls call finds in
@@ -662,8 +721,108 @@ resume_call w rows session (Some call) r host sound finds rest (c, d, asks, comp
     let ends : after_device w host (Some r) ≡ commanded w (record { device = answer.device; calls = taken_out (λ (y : WaitingCall). y.session) call.session w.host.calls }) w.requests (w.replies ++ told_by call.posting answer ∷ []) =
     (λ j. commanded w (after j) w.requests (w.replies ++ r ∷ [])) ∙ (λ j. commanded w (record { device = completed.3 j; calls = taken_out (λ (y : WaitingCall). y.session) call.session w.host.calls }) w.requests (w.replies ++ completed.2 j ∷ [])) in
     subst (MovesOne (Resume session) w) (sym ends)
-    (resumed_moves w rows session one.0 one.1 call c answer sound again one.2 (ap (λ i. is_at_rest (session_of w.host.device i)) same ∙ rest) asks completed.1)
+    (resumed_moves w _ rows session one.0 one.1 call sound one.2 (ap (λ i. is_at_rest (session_of w.host.device i)) same ∙ rest)
+    (resumed_serves w rows one.0 one.1 call c answer sound again one.2 asks completed.1) refl)
 
 pub resume_moves : (w w' : WorldState) (rows : List (List Inner)) (session : ℕ) → IsSoundBy w rows → DoesResume session w w' → MovesOne (Resume session) w w'
 resume_moves w w' rows session sound (r, host, (rest, does), after) =
     subst (MovesOne (Resume session) w) (sym after) (resume_call w rows session (call_for session w.host.calls) r host sound refl rest does)
+
+-- ---- what is served
+
+-- no command was done: the device stays, and a handle's call waits in it, or no handle moved
+pub record ServesNone (w u : WorldState) : Type 0 where
+  pub device : u.host.device ≡ w.host.device
+  pub slices : (n h : ℕ) → (slice_at u n h ≡ slice_at w n h) ⊎ ((m : Posting) × (slice_at u n h ≡ record (slice_at w n h) { out = Kept m }) × (out_at w n h ≡ Asked m))
+
+abbrev pub ServesIf : WorldState → WorldState → List (List Inner) → Type 0
+ServesIf w u rows = ((n : ℕ) × (h : ℕ) × Serves w u rows n h) ⊎ ServesNone w u
+
+stays_none : (w u : WorldState) → u.host.device ≡ w.host.device → SameEverywhere w u → ServesNone w u
+stays_none w u device same = record { device = device; slices = λ n h. inl (same n h) }
+
+waits_none : (w : WorldState) (rows : List (List Inner)) (m : Posting) (ms : List Posting) (h session : ℕ) → IsSoundBy w rows → w.requests ≡ m ∷ ms → IsFirstAsked w m ms → IsHandleAsked w rows h m →
+    ServesNone w (commanded w (record w.host { calls = put_in (λ (y : WaitingCall). y.session) (record { session = session; posting = m }) w.host.calls }) ms w.replies)
+waits_none w rows m ms h session sound is first a =
+    let v : WorldState = commanded w (record w.host { calls = put_in (λ (y : WaitingCall). y.session) (record { session = session; posting = m }) w.host.calls }) ms w.replies in
+    let both : _ = waits_slices w rows m ms h session sound is first a in
+    record {
+      device = refl;
+      slices = λ i k. elim (cases_eq i m.request.who) [
+        | inr apart ↦ inl (both.1 i k (λ same. apart same.0))
+        | inl first_same ↦ elim (cases_eq k h) [
+          | inr apart ↦ inl (both.1 i k (λ same. apart same.1))
+          | inl second ↦ inr (
+            m,
+            subst (λ j. slice_at v j k ≡ record (slice_at w j k) { out = Kept m }) (sym first_same)
+                (subst (λ j. slice_at v m.request.who j ≡ record (slice_at w m.request.who j) { out = Kept m }) (sym second) both.0),
+            (λ j. out_at w (first_same j) (second j)) ∙ a.out,
+          )
+        ]
+      ];
+    }
+
+command_serves : (w : WorldState) (rows : List (List Inner)) (m : Posting) (ms : List Posting) (h : ℕ) (c : Command) (b : Bool) (out : Option Returning) (host : Part) → IsSoundBy w rows → w.requests ≡ m ∷ ms → IsFirstAsked w m ms → IsHandleAsked w rows h m →
+    m.request.asks ≡ Judged (Ok c) → ExecutedCommand b m c w.host out host → ServesIf w (after_device (record w { requests = ms }) host out) rows
+command_serves w rows m ms h c true out host sound is first a asks (none, (session, named, after)) =
+    let rs : w.replies ++ option_to_list out ≡ w.replies = ap (λ o. w.replies ++ option_to_list o) none ∙ append-nil w.replies in
+    let ends : after_device (record w { requests = ms }) host out ≡ commanded w (record w.host { calls = put_in (λ (y : WaitingCall). y.session) (record { session = session; posting = m }) w.host.calls }) ms w.replies =
+    λ j. commanded w (after j) ms (rs j) in
+    inr (subst (ServesNone w) (sym ends) (waits_none w rows m ms h session sound is first a))
+command_serves w rows m ms h c false out host sound is first a asks (r, d, completed, told, after) =
+    let answer : Answer = completed.0 in
+    let ends : after_device (record w { requests = ms }) host out ≡ commanded w (record w.host { device = answer.device }) ms (w.replies ++ told_by m answer ∷ []) =
+    (λ j. commanded w (after j) ms (w.replies ++ option_to_list (told j))) ∙ (λ j. commanded w (record w.host { device = completed.3 j }) ms (w.replies ++ completed.2 j ∷ [])) in
+    inl (m.request.who, h, subst (λ u. Serves w u rows m.request.who h) (sym ends) (done_serves w rows m ms h c answer sound is first a asks completed.1))
+
+raw_device : (w : WorldState) (rows : List (List Inner)) (m : Posting) (ms : List Posting) (chain : RawChain) (ask : Ask) (out : Option Returning) (host : Part) → IsSoundBy w rows → w.requests ≡ m ∷ ms → (first : IsFirstAsked w m ms) →
+    first.statement.what ≡ Raw chain → raw_ask chain ≡ ask → ExecutedAsk ask m w.host out host → host.device ≡ w.host.device
+raw_device w rows m ms chain Unusable out host sound is first what asks (told, same) = ap (λ (p : Part). p.device) same
+raw_device w rows m ms chain (Judged (Err f)) out host sound is first what asks (told, same) = ap (λ (p : Part). p.device) same
+raw_device w rows m ms chain (Judged (Ok c)) out host sound is first what asks does =
+    by_wait (must_wait w.host.device c) does
+  where
+    by_wait : (b : Bool) → ExecutedCommand b m c w.host out host → host.device ≡ w.host.device
+    by_wait true (none, (session, named, after)) = ap (λ (p : Part). p.device) after
+    by_wait false (r, d, completed, told, after) =
+        let none : NamesNone c = raw_refused w rows m.request.who first.statement chain sound first.within first.now what c asks in
+        ap (λ (p : Part). p.device) after ∙ (completed.3 ∙ refused_leaves w.host.device c m.behind m.held completed.0 (few_sessions w rows sound) none completed.1)
+
+what_serves : (w : WorldState) (rows : List (List Inner)) (m : Posting) (ms : List Posting) (what : LineKind) (out : Option Returning) (host : Part) → IsSoundBy w rows → w.requests ≡ m ∷ ms → (first : IsFirstAsked w m ms) →
+    first.statement.what ≡ what → Executed m w.host out host → ServesIf w (after_device (record w { requests = ms }) host out) rows
+what_serves w rows m ms (Raw chain) out host sound is first what does =
+    let asks : m.request.asks ≡ raw_ask chain = ap (λ (y : Posting). y.request.asks) (raw_posted w rows m ms chain sound is first what) in
+    let by : ExecutedAsk (raw_ask chain) m w.host out host = subst (λ a. ExecutedAsk a m w.host out host) asks does in
+    inr (stays_none w (after_device (record w { requests = ms }) host out) (raw_device w rows m ms chain (raw_ask chain) out host sound is first what refl by)
+    (raw_ask_done w rows m ms chain (raw_ask chain) out host sound is first what refl by))
+what_serves w rows m ms (OnHandle h call) out host sound is first what does =
+    let a : IsHandleAsked w rows h m = handle_asked w rows m ms h call sound is first what in
+    let c : Command = a.posted.crossing.command in
+    let asks : m.request.asks ≡ Judged (Ok c) = ap (λ (y : Posting). y.request.asks) a.posted.says in
+    command_serves w rows m ms h c (must_wait w.host.device c) out host sound is first a asks (subst (λ k. ExecutedAsk k m w.host out host) asks does)
+
+execute_in : (w u : WorldState) (rows : List (List Inner)) (requests : List Posting) → IsSoundBy w rows → w.requests ≡ requests → DoesExecute requests w u → ServesIf w u rows
+execute_in w u rows [] sound is does = absurd does
+execute_in w u rows (m ∷ ms) sound is (out, host, does, after) =
+    let first : IsFirstAsked w m ms = asked_first w rows m ms sound is in
+    subst (λ z. ServesIf w z rows) (sym after) (what_serves w rows m ms first.statement.what out host sound is first refl does)
+
+pub execute_serves : (w u : WorldState) (rows : List (List Inner)) → IsSoundBy w rows → DoesExecute w.requests w u → ServesIf w u rows
+execute_serves w u rows sound does = execute_in w u rows w.requests sound refl does
+
+resume_in : (w : WorldState) (rows : List (List Inner)) (session : ℕ) (o : Option WaitingCall) (r : Returning) (host : Part) → IsSoundBy w rows → call_for session w.host.calls ≡ o → ResumedCall o w.host r host →
+    ServesIf w (after_device w host (Some r)) rows
+resume_in w rows session None r host sound finds does = absurd does
+resume_in w rows session (Some call) r host sound finds (c, d, asks, completed, after) =
+    let there : _ = find_in (λ (y : WaitingCall). eqb y.session session) w.host.calls call finds in
+    let same : call.session ≡ session = eqb-true call.session session there.1 in
+    let again : find (λ (y : WaitingCall). eqb y.session call.session) w.host.calls ≡ Some call = subst (λ i. find (λ (y : WaitingCall). eqb y.session i) w.host.calls ≡ Some call) (sym same) finds in
+    let one : _ = one_kept w rows call sound there.0 in
+    let answer : Answer = completed.0 in
+    let ends : after_device w host (Some r) ≡ commanded w (record { device = answer.device; calls = taken_out (λ (y : WaitingCall). y.session) call.session w.host.calls }) w.requests (w.replies ++ told_by call.posting answer ∷ []) =
+    (λ j. commanded w (after j) w.requests (w.replies ++ r ∷ [])) ∙ (λ j. commanded w (record { device = completed.3 j; calls = taken_out (λ (y : WaitingCall). y.session) call.session w.host.calls }) w.requests (w.replies ++ completed.2 j ∷ [])) in
+    inl (one.0, one.1, subst (λ u. Serves w u rows one.0 one.1) (sym ends) (resumed_serves w rows one.0 one.1 call c answer sound again one.2 asks completed.1))
+
+pub resume_serves : (w u : WorldState) (rows : List (List Inner)) (session : ℕ) → IsSoundBy w rows → DoesResume session w u → ServesIf w u rows
+resume_serves w u rows session sound (r, host, (rest, does), after) =
+    subst (λ z. ServesIf w z rows) (sym after) (resume_in w rows session (call_for session w.host.calls) r host sound refl does)

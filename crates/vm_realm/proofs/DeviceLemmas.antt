@@ -1,9 +1,8 @@
 -- What a command, a job and an event leave of what is queued, out and unsent in the device.
-use Rattle.std.proofs.Common.{◌≡◌, ℕ, zero, suc, ◌+◌, ◌-◌, ◌*◌, ◌<◌, ◌≤◌, Bool, true, false, not, List, [], ◌∷◌, ◌++◌, Option, Some, None, Result, Ok, Err, is_some, length, get_or, set, map, refl, sym, ap, ◌∙◌, subst, arith, inl, inr, length-append, eqb, cond}
+use Rattle.std.proofs.Common.{◌≡◌, ℕ, ◌+◌, ◌<◌, ◌≤◌, Bool, true, false, List, [], ◌∷◌, ◌++◌, Option, Some, None, Result, Ok, Err, length, get_or, refl, sym, ap, ◌∙◌, subst, arith, inl, inr}
 use Rattle.std.specs.Prelude.{sum_by, ◌&&◌}
-use Rattle.std.specs.List.{filter, find}
-use Rattle.std.proofs.lemmas.Bool.{false≢true, cases_lt, cond_both}
-use Rattle.std.proofs.lemmas.List.{get_or_past, length-replicate}
+use Rattle.std.proofs.lemmas.Bool.{cases_lt, cond_both}
+use Rattle.std.proofs.lemmas.List.{get_or_past}
 use Rattle.std.proofs.lemmas.List.Sums.{sum_by-cons, sum_by-append, sum_by-set}
 use Rattle.std.proofs.lemmas.Option.{none-some}
 use Rattle.v4l_const.specs.declared.errno.Errno.{Errno}
@@ -22,7 +21,7 @@ use Rattle.vm_session.specs.Rows.{IoctlAnswer, ioctl_outcome}
 use Rattle.vm_device.specs.Brought.{is_named, is_told, keeps_length, loaded, brought, comes_with}
 use Rattle.vm_device.specs.Device.{DeviceState, session_of, with_session}
 use Rattle.vm_device.specs.Mappings.{frame_in}
-use Rattle.vm_device.specs.Perform.{Answer, opened, closed, called, called_with, in_session, MapsFrame, MapsFound, UnmapsAt, Performs}
+use Rattle.vm_device.specs.Perform.{Answer, opened, closed, called, called_with, in_session, MapsFound, UnmapsAt, Performs}
 use Rattle.vm_realm.specs.Left.{queued_in}
 use Rattle.vm_realm.proofs.SumLemmas.{sum_set_few}
 use Rattle.vm_realm.proofs.QueuedLemmas.{queued, queues_by, outcome_few, opening_none}

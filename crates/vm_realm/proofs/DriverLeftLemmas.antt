@@ -1,36 +1,32 @@
 -- Each step of the driver lowers what is left.
-use Rattle.std.proofs.Common.{◌≡◌, ℕ, ◌+◌, ◌*◌, ◌-◌, ◌<◌, ◌≤◌, Bool, true, false, List, [], ◌∷◌, ◌++◌, Option, Some, None, Ok, Err, is_some, length, get_or, set, refl, sym, ap, ◌∙◌, subst, arith}
+use Rattle.std.proofs.Common.{◌≡◌, ℕ, ◌+◌, ◌*◌, ◌-◌, ◌<◌, ◌≤◌, Bool, true, false, List, [], ◌∷◌, Option, Some, None, Ok, Err, is_some, length, refl, sym, ap, ◌∙◌, subst, arith}
 use Rattle.std.specs.Prelude.{sum_by}
-use Rattle.std.specs.Option.{option_and_then}
 use Rattle.std.proofs.lemmas.Bool.{false≢true}
 use Rattle.std.proofs.lemmas.List.Sums.{sum_by-cons, sum_by-append}
 use Rattle.std.proofs.lemmas.Option.{option_and_then_some}
-use Rattle.vm_lease.specs.Lease.{LeaseParts}
-use Rattle.vm_lease.specs.declared.lease_out.LeaseOut.{LeaseOut}
-use Rattle.vm_link.specs.declared.link.Turn.TheVariants.{Did, Idle}
+use Rattle.vm_link.specs.declared.link.Turn.TheVariants.{Did}
 use Rattle.vm_log.specs.declared.leased.Leased.{Leased}
 use Rattle.vm_wire.specs.Message.{Ask, Posting, Returning}
 use Rattle.vm_wire.specs.Message.Ask.{Unusable, Judged}
 use Rattle.vm_wire.specs.declared.command.Command.{Command}
 use Rattle.vm_wire.specs.declared.command.Command.TheVariants.{OpenSession, CloseSession, Ioctl, Map, Unmap}
 use Rattle.vm_wire.specs.declared.delivery.Delivery.{Delivery}
-use Rattle.v4l_const.specs.declared.ioctl_code.IoctlCode.{IoctlCode}
 use Rattle.v4l_const.specs.declared.ioctl_code.IoctlCode.TheVariants.{QBuf}
 use Rattle.vm_guest.specs.Asking.{asked_by, is_leased, begins_with_events, ends_with_events}
-use Rattle.vm_guest.specs.Events.{taken, all_taken, settled}
-use Rattle.vm_guest.specs.Guest.{GuestState, no_process, process_in, process_at, with_process}
-use Rattle.vm_guest.specs.Lines.{Begins, AnsweredFor, LeasesCall, returned}
+use Rattle.vm_guest.specs.Events.{all_taken}
+use Rattle.vm_guest.specs.Guest.{GuestState, no_process, process_at, with_process}
+use Rattle.vm_guest.specs.Lines.{returned}
 use Rattle.vm_guest.specs.Message.{Sending, posting_of}
 use Rattle.vm_guest.specs.Part.{Inbox, Outbox, postings, none_if, IssuesFor, Issues, CollectsFirst, CollectsFrom, Collects, PumpsFrom, Pumps}
-use Rattle.vm_guest.specs.Process.{ProcessState, begun, is_blocked, issuing, leasing, next, kept_by, crossing, current, lease_out}
-use Rattle.vm_guest.specs.Steps.{all_if, Issued, Collected, LeasesFor, Leases, given_back}
+use Rattle.vm_guest.specs.Process.{ProcessState, is_blocked, issuing, leasing, next, kept_by, current, lease_out}
+use Rattle.vm_guest.specs.Steps.{all_if, Issued, LeasesFor, given_back}
 use Rattle.vm_guest.specs.declared.asked.Asked.{Asked}
 use Rattle.vm_guest.specs.declared.asked.Statement.{Statement}
-use Rattle.vm_guest.specs.declared.status.Status.TheVariants.{AtRest, Crossing}
-use Rattle.vm_realm.specs.World.{WorldState, leases_out}
-use Rattle.vm_realm.specs.Left.{command_weight, request_weight, unbegun, queued_in, left_of}
+use Rattle.vm_guest.specs.declared.status.Status.TheVariants.{Crossing}
+use Rattle.vm_realm.specs.World.{WorldState}
+use Rattle.vm_realm.specs.Left.{command_weight, request_weight, left_of}
 use Rattle.vm_realm.specs.Steps.{inbox_of, after_driver, DriverDoes, DoesLease, DoesGiveBack}
-use Rattle.vm_realm.proofs.SumLemmas.{one_in, sum_set_few, sum_set_falls, place_within}
+use Rattle.vm_realm.proofs.SumLemmas.{sum_set_few, sum_set_falls, place_within}
 use Rattle.vm_realm.proofs.ProcessLemmas.{weight, weights, ahead_of, rest_weight, begun_weight, next_is, kept_some, crossing_where, Stays}
 use Rattle.vm_realm.proofs.GuestLemmas.{all_weight, taken_weight, taken_count, taken_stays, settled_weight}
 use Rattle.vm_realm.proofs.StatementLemmas.{begins_goes, answered_goes, leases_goes, returned_falls}

@@ -1,15 +1,13 @@
 -- The list of steps has just those that may come next.
-use Rattle.std.proofs.Common.{◌≡◌, ℕ, zero, suc, ◌+◌, ◌<◌, Bool, true, false, not, List, [], ◌∷◌, ◌++◌, Option, Some, None, is_some, length, get_or, map, refl, sym, ap, ◌∙◌, subst, arith, eqb}
-use Rattle.std.specs.Prelude.{◌&&◌}
-use Rattle.std.specs.List.{All, Contains, filter, find}
+use Rattle.std.proofs.Common.{◌≡◌, ℕ, ◌<◌, Bool, true, false, not, List, [], ◌++◌, None, is_some, length, get_or, map, refl, sym, ◌∙◌, eqb}
+use Rattle.std.specs.List.{All, Contains, find}
 use Rattle.std.proofs.lemmas.Bool.{and_parts, and_from, false≢true}
-use Rattle.std.proofs.lemmas.List.Elements.{All-nil, All-cons, All-append, All-map, All-filter, All-contains, Contains-get_or, filter_passes, Contains-append_left, Contains-append_right}
-use Rattle.vm_marks.specs.Marks.{places_from, places_of}
+use Rattle.std.proofs.lemmas.List.Elements.{All-nil, All-cons, All-append, All-map, All-filter, Contains-get_or, filter_passes, Contains-append_left, Contains-append_right}
 use Rattle.vm_job.specs.declared.job_out.JobOut.{JobOut}
 use Rattle.vm_device.specs.Device.{session_of, is_ready, is_at_rest, ready_ids}
 use Rattle.vm_device.specs.Stream.{outstanding}
 use Rattle.vm_host.specs.Part.{Part, Call}
-use Rattle.vm_guest.specs.Guest.{process_in, process_at, no_process, can_issue, can_lease}
+use Rattle.vm_guest.specs.Guest.{process_at, no_process}
 use Rattle.vm_guest.specs.Process.{ProcessState, issuing, leasing, lease_out}
 use Rattle.vm_realm.specs.declared.step.Step.{Step}
 use Rattle.vm_realm.specs.declared.step.Step.TheVariants.{Issue, Execute, Resume, Begin, Finish, Announce, Collect, Pump, Lease, GiveBack}

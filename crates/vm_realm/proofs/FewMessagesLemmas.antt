@@ -1,19 +1,18 @@
 -- No more than 64 messages of a handle are under way.
-use Rattle.std.proofs.Common.{◌≡◌, ◌⊎◌, ◌≢◌, ℕ, zero, suc, ◌+◌, ◌*◌, ◌<◌, ◌≤◌, Bool, true, false, not, nat_lt, List, [], ◌∷◌, ◌++◌, Option, Some, None, length, get_or, set, map, drop, refl, sym, ap, ◌∙◌, subst, arith, inl, inr, eqb, cond, if◌then◌else◌, length-append}
+use Rattle.std.proofs.Common.{◌≡◌, ◌⊎◌, ℕ, zero, suc, ◌+◌, ◌*◌, ◌<◌, ◌≤◌, Bool, true, false, not, List, [], ◌∷◌, ◌++◌, Option, Some, None, length, get_or, set, map, drop, refl, sym, ap, ◌∙◌, subst, arith, inl, inr, eqb, if◌then◌else◌, length-append}
 use Rattle.std.specs.Prelude.{◌&&◌}
 use Rattle.std.specs.List.{All, filter, list_all}
 use Rattle.std.specs.Option.{option_and_then}
-use Rattle.std.proofs.lemmas.Bool.{false≢true, true≢false, cases_Bool, cases_eq, cases_lt, cond-true, cond-false, cond_both, eq-eqb, ne_eqb, eqb-true, and_parts, and_from}
+use Rattle.std.proofs.lemmas.Bool.{false≢true, cases_eq, cases_lt, cond-true, cond-false, eq-eqb, ne_eqb, eqb-true, and_parts}
 use Rattle.std.proofs.lemmas.List.{length-map, get_or_past}
 use Rattle.std.proofs.lemmas.List.Elements.{All-head, All-tail}
-use Rattle.std.proofs.lemmas.Option.{none-some, same_Some}
+use Rattle.std.proofs.lemmas.Option.{same_Some}
 use Rattle.std.proofs.Math.ListN.{get_or-map}
 use Rattle.v4l_const.specs.declared.model.Model.{Model}
 use Rattle.v4l_const.specs.declared.numbers.TheConstants.{BUF_TYPE_CAPTURE, BUF_TYPE_OUTPUT}
 use Rattle.v4l_const.specs.declared.model.Model.TheVariants.{Capture, Convert}
 use Rattle.v4l_const.specs.Model.{queues as types_of, picture_queue, source_queue, has_events}
 use Rattle.v4l_format.specs.Fmt.{picture_size}
-use Rattle.v4l_layout.specs.declared.buffer_rec.BufferRec.{BufferRec}
 use Rattle.v4l_rules.specs.Queues.{place_in}
 use Rattle.v4l_rules.specs.Refusals.{first_refusal}
 use Rattle.vm_wire.specs.declared.event.EventMsg.{EventMsg}
@@ -28,10 +27,9 @@ use Rattle.vm_local.specs.declared.entry.Entry.TheVariants.{Called, Finish, Bad,
 use Rattle.vm_local.specs.declared.owed.Owed.{Owed}
 use Rattle.vm_local.specs.declared.owed.OwedItem.{OwedItem}
 use Rattle.vm_local.specs.declared.owed.OwedItem.TheVariants.{Buffer as OwedBuffer, Sync}
-use Rattle.vm_local.specs.declared.reply.Reply.{Reply}
 use Rattle.vm_local.specs.State.{QueueState, LocalState, opening, opening_queue, queue_of, no_buffer, buffer_of, with_buffer}
 use Rattle.vm_local.specs.Same.{address_in}
-use Rattle.vm_local.specs.Queue.{is_empty, can_finish, owed_by_others, with_buffers}
+use Rattle.vm_local.specs.Queue.{is_empty, can_finish, with_buffers}
 use Rattle.vm_local.specs.Calls.{Row, row_of, querycap_row, enumfmt_row, gfmt_row, tryfmt_row, sfmt_row, enuminput_row, ginput_row, sinput_row, reqbufs_row, querybuf_row, ualloc_row, qbuf_row, streamon_row, streamoff_row, dqbuf_row, mmap_row, munmap_row, read_row, hash_row, write_row, fill_row, subscribe_row, unsubscribe_row, dqevent_row}
 use Rattle.vm_local.specs.Listed.{is_queued, is_with_device, is_index, times, times_owed, once, IsThere, IsOwedThere, AreThere}
 use Rattle.vm_local.specs.Kinds.{is_done}
@@ -54,7 +52,7 @@ use Rattle.vm_stands.specs.Flight.{LeadAll, Leads, stops_queues}
 use Rattle.vm_stands.specs.Slice.{LeadAhead, LeadWith}
 use Rattle.vm_realm.specs.Inner.{Inner, driver_state, id_in}
 use Rattle.vm_realm.specs.Slice.{Slice, unsent_by, earlier_of}
-use Rattle.vm_realm.specs.Sound.{IsShut, IsSeated, IsSoundSlice}
+use Rattle.vm_realm.specs.Sound.{IsSeated, IsSoundSlice}
 
 -- ---- what is owed of an event is followed by its buffer
 
@@ -445,6 +443,13 @@ all_left id (e ∷ es) s t reached (u, first, rest) =
     let next : IsReached u = reached_all _ s u reached (leads_replay id s u e first) in
     omega (arith, lead_left id s u e reached first, all_left id es u t next rest)
 
+-- and leave those that come behind them
+pub all_lower : (id : ℕ) (es : List Unsent) (s t : LocalState) → IsReached s → LeadAll id s es t → length es + messages_left t ≤ messages_left s
+all_lower id [] s t reached leads = let same = ap messages_left leads in omega (arith, same)
+all_lower id (e ∷ es) s t reached (u, first, rest) =
+    let next : IsReached u = reached_all _ s u reached (leads_replay id s u e first) in
+    omega (arith, lead_left id s u e reached first, all_lower id es u t next rest)
+
 -- ---- they are few
 
 -- a buffer that is owed is of a type of the model
@@ -463,7 +468,7 @@ place_two a b t within = by_first (eqb a t) refl (eqb b t) refl within
     by_first false is true other within = inr (sym (eqb-true b t other))
     by_first false is false other within = absurd (omega (arith, within))
 
-owed_place : (s : LocalState) (t i : ℕ) → IsThere AsOwed (queue_of s t) i → place_in (types_of s.model) t < length s.queues
+pub owed_place : (s : LocalState) (t i : ℕ) → IsThere AsOwed (queue_of s t) i → place_in (types_of s.model) t < length s.queues
 owed_place s t i there = elim (cases_lt (place_in (types_of s.model) t) (length s.queues)) [
   | inl within ↦ within
   | inr past ↦ absurd (let none = ap (λ (q : QueueState). length q.buffers) (get_or_past s.queues (place_in (types_of s.model) t) opening_queue past) in let some = there.0 in omega (arith, none, some))
@@ -544,7 +549,7 @@ owed_type s m is many there = λ k d within i item.
     let same = ap (λ n. place_in (types_of n) o.queue) is in
     omega (arith, place, same, many)
 
-left_by : (m : Model) (s : LocalState) → s.model ≡ m → IsReached s → messages_left s ≤ 64
+pub left_by : (m : Model) (s : LocalState) → s.model ≡ m → IsReached s → messages_left s ≤ 64
 left_by Capture s is reached =
     let c : ℕ = picture_queue Capture in
     let many : length s.queues ≡ 1 = many_queues s reached ∙ ap (λ m. length (types_of m)) is in

@@ -1,10 +1,9 @@
 -- The format of each queue of a handle is one that the device offers, so that what is mapped has pages.
-use Rattle.std.proofs.Common.{◌≡◌, ◌⊎◌, ℕ, zero, suc, ◌+◌, ◌/◌, ◌<◌, ◌≤◌, Bool, true, false, not, nat_lt, List, [], ◌∷◌, ◌++◌, Option, Some, None, length, get_or, set, map, drop, refl, sym, ap, ◌∙◌, subst, arith, inl, inr, if◌then◌else◌}
+use Rattle.std.proofs.Common.{◌≡◌, ℕ, zero, suc, ◌<◌, ◌≤◌, Bool, true, false, not, List, [], ◌∷◌, ◌++◌, Option, Some, None, length, get_or, set, map, refl, sym, ap, subst, arith, inl, inr, if◌then◌else◌}
 use Rattle.std.specs.Prelude.{IfSome, ◌||◌}
 use Rattle.std.specs.Option.{option_map}
 use Rattle.std.proofs.lemmas.Bool.{not-false, ltb-true}
 use Rattle.v4l_const.specs.declared.four_cc.FourCc.{FourCc}
-use Rattle.v4l_const.specs.declared.model.Model.{Model}
 use Rattle.v4l_const.specs.Model.{queues as types_of, source_queue, picture_queue}
 use Rattle.v4l_format.specs.declared.fmt.Fmt.{Fmt}
 use Rattle.v4l_format.specs.Fmt.{IsAdjusted, picture_size}
@@ -13,8 +12,6 @@ use Rattle.v4l_rules.specs.Formats.{is_source, source_format, with_format_at, wi
 use Rattle.v4l_rules.specs.Queues.{place_in}
 use Rattle.v4l_rules.specs.Refusals.{first_refusal}
 use Rattle.v4l_rules.proofs.AdjustedLemmas.{adjusted_from_adjusted, first_is_adjusted, sized_adjusted}
-use Rattle.vm_local.specs.declared.buffer.Buffer.{Buffer}
-use Rattle.vm_local.specs.declared.buffer.BufferState.TheVariants.{Done}
 use Rattle.vm_local.specs.declared.call.Call.{Call}
 use Rattle.vm_local.specs.declared.call.Call.TheVariants.{OpenHandle, CloseHandle, QueryCap, EnumFmt, GFmt, TryFmt, SFmt, EnumInput, GInput, SInput, ReqBufs, QueryBuf, UAlloc, QBuf, StreamOn, StreamOff, DqBuf, Mmap, Munmap, Peek, Hash, Poke, Fill, Subscribe, Unsubscribe, DqEvent}
 use Rattle.vm_local.specs.declared.entry.Entry.{Entry}
@@ -22,16 +19,15 @@ use Rattle.vm_local.specs.declared.entry.Entry.TheVariants.{Called, Finish, Bad,
 use Rattle.vm_local.specs.declared.owed.Owed.{Owed}
 use Rattle.vm_local.specs.declared.owed.OwedItem.{OwedItem}
 use Rattle.vm_local.specs.declared.owed.OwedItem.TheVariants.{Buffer as OwedBuffer, Sync}
-use Rattle.vm_local.specs.declared.reply.Reply.{Reply}
-use Rattle.vm_local.specs.State.{QueueState, LocalState, opening, opening_queue, queue_kind, queue_of, with_queue, buffer_of}
+use Rattle.vm_local.specs.State.{QueueState, LocalState, opening, opening_queue, queue_kind, queue_of, buffer_of}
 use Rattle.vm_local.specs.Kinds.{is_idle}
 use Rattle.vm_local.specs.Same.{address_in}
 use Rattle.vm_local.specs.Memory.{pages_of}
 use Rattle.vm_local.specs.Queue.{adjusted_for, with_set_format, stopped_queue, with_buffers, is_user_ptr}
 use Rattle.vm_local.specs.Calls.{Row, row_of, querycap_row, enumfmt_row, gfmt_row, tryfmt_row, sfmt_row, enuminput_row, ginput_row, sinput_row, reqbufs_row, querybuf_row, ualloc_row, qbuf_row, streamon_row, streamoff_row, dqbuf_row, mmap_row, munmap_row, read_row, hash_row, write_row, fill_row, subscribe_row, unsubscribe_row, dqevent_row}
-use Rattle.vm_local.specs.Steps.{counted, head, target, heads_taken, taken, next_timestamp, with_target_used, sync_of, buffers_taken, item_given}
-use Rattle.vm_local.specs.Log.{row_for, called, after, replay_from}
-use Rattle.vm_local.proofs.StepLemmas.{passes, answered_by, finished_by, failed_by, given_by, frame_made, frame_failed, kept_by_all}
+use Rattle.vm_local.specs.Steps.{counted, target, heads_taken, taken, next_timestamp, with_target_used, sync_of, buffers_taken, item_given}
+use Rattle.vm_local.specs.Log.{row_for, called, after}
+use Rattle.vm_local.proofs.StepLemmas.{passes, answered_by, finished_by, failed_by, given_by, kept_by_all}
 use Rattle.vm_home.specs.Reached.{IsReached}
 use Rattle.vm_stands.specs.Laws.{is_held}
 use Rattle.vm_stands.proofs.LengthLemmas.{lengths_are}

@@ -1,24 +1,22 @@
 -- Frames: what a step leaves as it is of the slices of other handles.
-use Rattle.std.proofs.Common.{◌≡◌, ℕ, zero, suc, ◌+◌, ◌<◌, ◌≤◌, Bool, true, false, not, List, [], ◌∷◌, ◌++◌, Option, Some, None, is_some, length, get_or, set, refl, sym, ap, ◌∙◌, subst, arith, inl, inr, eqb, cond}
-use Rattle.std.specs.Prelude.{slice_get, IsSome}
+use Rattle.std.proofs.Common.{◌≡◌, ℕ, ◌<◌, Bool, true, false, not, List, [], ◌∷◌, ◌++◌, Option, Some, None, is_some, length, get_or, set, refl, sym, ap, ◌∙◌, subst, inl, inr, eqb, cond}
+use Rattle.std.specs.Prelude.{slice_get}
 use Rattle.std.specs.List.{filter, find}
 use Rattle.std.specs.Option.{option_map, option_and_then}
-use Rattle.std.proofs.lemmas.Bool.{false≢true, cases_Bool, cases_lt, cond-true, cond-false, cond_both, eq-eqb, ne_eqb, eqb-true}
+use Rattle.std.proofs.lemmas.Bool.{false≢true, cases_Bool, cases_lt, cond-true, cond-false, eq-eqb, ne_eqb, eqb-true}
 use Rattle.std.proofs.lemmas.List.{append-nil, get_or_past, get_or-set_same, get_or-set_other}
 use Rattle.std.proofs.lemmas.List.Elements.{filter-append}
-use Rattle.std.proofs.lemmas.Option.{none-some, slice_get_past, slice_get-get_or}
+use Rattle.std.proofs.lemmas.Option.{none-some, slice_get-get_or}
 use Rattle.vm_job.specs.Entry.{parts_of}
-use Rattle.vm_job.specs.Job.{JobParts}
 use Rattle.vm_job.specs.declared.job_out.JobOut.{JobOut}
 use Rattle.vm_wire.specs.declared.delivery.Delivery.{Delivery}
-use Rattle.vm_wire.specs.Message.{Posting, Returning}
 use Rattle.vm_handle.specs.Handle.{HandleState}
 use Rattle.vm_session.specs.State.{SessionState}
-use Rattle.vm_device.specs.Device.{DeviceState, session_of}
-use Rattle.vm_guest.specs.Guest.{GuestState, no_process, process_in, process_at, handle_named}
+use Rattle.vm_device.specs.Device.{DeviceState}
+use Rattle.vm_guest.specs.Guest.{GuestState, no_process, process_at, handle_named}
 use Rattle.vm_guest.specs.Process.{ProcessState, handle_at, no_handle}
 use Rattle.vm_realm.specs.World.{WorldState, jobs_out}
-use Rattle.vm_realm.specs.Slice.{Slice, Out, id_ahead, session_in, job_in, events_for, out_at, slice_with, slice_at}
+use Rattle.vm_realm.specs.Slice.{Out, id_ahead, session_in, job_in, events_for, out_at, slice_with, slice_at}
 use Rattle.vm_realm.specs.Slice.Out.{Nowhere, Asked, Kept, Told, Astray}
 use Rattle.vm_realm.specs.Sound.{IsHandle, id_at}
 
@@ -158,7 +156,7 @@ no_id (Kept m) = refl
 no_id (Told r) = refl
 no_id Astray = refl
 
-missing : (g : GuestState) (n h : ℕ) → handle_named g n h ≡ None → handle_at (process_at g n) h ≡ no_handle
+pub missing : (g : GuestState) (n h : ℕ) → handle_named g n h ≡ None → handle_at (process_at g n) h ≡ no_handle
 missing g n h none = elim (cases_lt n (length g.processes)) [
   | inl within ↦ of_process (sym (ap (λ o. option_and_then (λ (p : ProcessState). slice_get p.handles h) o) (slice_get-get_or g.processes n no_process within)) ∙ none)
   | inr past ↦ ap (λ (p : ProcessState). handle_at p h) (get_or_past g.processes n no_process past)

@@ -1,5 +1,5 @@
 -- In a sound world a frame of a session has two messages at most.
-use Rattle.std.proofs.Common.{◌≡◌, ℕ, zero, suc, ◌+◌, ◌-◌, ◌<◌, ◌≤◌, Bool, true, false, not, List, [], ◌∷◌, ◌++◌, Option, Some, None, is_some, length, get_or, map, refl, sym, ap, ◌∙◌, subst, arith, inl, inr, length-append, if◌then◌else◌}
+use Rattle.std.proofs.Common.{◌≡◌, ℕ, ◌+◌, ◌≤◌, Bool, false, List, [], ◌∷◌, ◌++◌, Option, Some, None, length, map, refl, sym, ap, ◌∙◌, subst, arith, length-append}
 use Rattle.std.specs.Prelude.{◌&&◌}
 use Rattle.std.specs.Option.{IfSome, option_to_list, option_map}
 use Rattle.std.proofs.lemmas.Bool.{cond_both, cond-false, and_left}
@@ -14,15 +14,14 @@ use Rattle.vm_session.specs.declared.running.Running.{Running}
 use Rattle.vm_session.specs.declared.unsent.Unsent.{Unsent}
 use Rattle.vm_session.specs.Sound.{taken_by}
 use Rattle.vm_session.specs.State.{SessionState}
-use Rattle.vm_session.specs.Streaming.{sync_events, src_events, dst_event, events_of, finished, finished_by, returned}
+use Rattle.vm_session.specs.Streaming.{sync_events, src_events, dst_event, events_of, finished_by, returned}
 use Rattle.vm_device.specs.Device.{session_of}
 use Rattle.vm_device.specs.Stream.{events_more}
 use Rattle.vm_local.specs.State.{LocalState}
 use Rattle.vm_stands.specs.Stands.{Stands}
-use Rattle.vm_stands.specs.Slice.{IsSlice}
 use Rattle.vm_realm.specs.World.{WorldState}
-use Rattle.vm_realm.specs.Inner.{Inner, driver_state}
-use Rattle.vm_realm.specs.Slice.{Slice, session_in, slice_at, earlier_of}
+use Rattle.vm_realm.specs.Inner.{Inner}
+use Rattle.vm_realm.specs.Slice.{Slice, session_in, slice_at}
 use Rattle.vm_realm.specs.Sound.{IsSeated, IsSoundSlice, IsSoundBy, IsHandle, id_at, inner_at}
 use Rattle.vm_realm.proofs.SumLemmas.{one_in, one_most}
 use Rattle.vm_realm.proofs.DeviceLemmas.{session_there}

@@ -1,5 +1,5 @@
 -- Each step of the world lets each handle's log go on from what it was.
-use Rattle.std.proofs.Common.{◌≡◌, ℕ, ◌+◌, ◌<◌, ◌≤◌, Bool, true, false, List, [], ◌∷◌, ◌++◌, Option, Some, None, length, get_or, set, refl, sym, ap, ◌∙◌, subst, arith, inl, inr, append_assoc, if◌then◌else◌}
+use Rattle.std.proofs.Common.{◌≡◌, ℕ, List, [], ◌∷◌, ◌++◌, Option, Some, None, length, get_or, set, refl, sym, ap, ◌∙◌, subst, inl, inr, append_assoc}
 use Rattle.std.specs.Prelude.{◌&&◌}
 use Rattle.std.proofs.lemmas.Bool.{cases_eq, cases_lt, cond_both}
 use Rattle.std.proofs.lemmas.List.{append-nil, set_past, get_or-set_same, get_or-set_other}
@@ -12,7 +12,6 @@ use Rattle.vm_lease.specs.Lease.{LeaseParts}
 use Rattle.vm_local.specs.declared.call.Call.{Call}
 use Rattle.vm_local.specs.declared.entry.Entry.{Entry}
 use Rattle.vm_local.specs.declared.entry.Entry.TheVariants.{Called, Give}
-use Rattle.vm_local.specs.declared.reply.Reply.{Reply}
 use Rattle.vm_local.specs.declared.reply.Reply.TheVariants.{Refused}
 use Rattle.vm_log.specs.Answers.{with_line, Sends, Leases, given_back as log_given_back}
 use Rattle.vm_log.specs.LegalLog.{LogState, state_of, with_entry}
@@ -28,7 +27,7 @@ use Rattle.vm_wire.specs.Wire.{response_of}
 use Rattle.vm_exchange.specs.Messages.{made_by}
 use Rattle.vm_exchange.specs.declared.way.Way.{Way}
 use Rattle.vm_exchange.specs.declared.way.Way.TheVariants.{Crosses, AnsweredHere, Waits, TouchesMemory}
-use Rattle.vm_handle.specs.Answers.{row_from, answered_by, answered_here, AnswersHere, with_reply, with_steps, with_given, answered_at, awoken, delivered}
+use Rattle.vm_handle.specs.Answers.{row_from, answered_by, AnswersHere, with_reply, with_steps, with_given, answered_at, awoken, delivered}
 use Rattle.vm_handle.specs.Handle.{HandleState, way_from}
 use Rattle.vm_handle.specs.declared.stage.Stage.{Stage}
 use Rattle.vm_handle.specs.declared.stage.Stage.TheVariants.{AtRest, Underway, Waiting}
@@ -37,7 +36,7 @@ use Rattle.vm_guest.specs.Events.{woken, told, told_at, all_told, holds_back, he
 use Rattle.vm_guest.specs.Guest.{GuestState, no_process, process_in, process_at, with_process, seat_of}
 use Rattle.vm_guest.specs.Lines.{BeginsCall, Begins, AnsweredFor, after_lease, LeasesCall, returned_to, returned, waiting}
 use Rattle.vm_guest.specs.Message.{Sending}
-use Rattle.vm_guest.specs.Part.{Inbox, Outbox, IssuesFor, Issues, CollectsFirst, CollectsFrom, Collects, PumpsFrom, Pumps}
+use Rattle.vm_guest.specs.Part.{Inbox, Outbox, IssuesFor, CollectsFrom, PumpsFrom}
 use Rattle.vm_guest.specs.Process.{ProcessState, is_blocked, is_answered_in, current_call, issuing, leasing, handle_at, with_handle, with_log, no_handle, rested}
 use Rattle.vm_guest.specs.Steps.{all_if, Issued, LeasesFor}
 use Rattle.vm_guest.specs.declared.asked.Asked.{Asked as AskedCall}
@@ -46,7 +45,7 @@ use Rattle.vm_guest.specs.declared.seat.Seat.{Seat}
 use Rattle.vm_realm.specs.declared.step.Step.{Step}
 use Rattle.vm_realm.specs.declared.step.Step.TheVariants.{Issue, Execute, Resume, Begin, Finish, Announce, Collect, Pump, Lease, GiveBack}
 use Rattle.vm_realm.specs.World.{WorldState}
-use Rattle.vm_realm.specs.Steps.{inbox_of, DriverDoes, DoesExecute, Steps}
+use Rattle.vm_realm.specs.Steps.{inbox_of, DoesExecute, Steps}
 
 -- ---- logs
 

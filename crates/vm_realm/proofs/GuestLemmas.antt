@@ -1,13 +1,13 @@
 -- What is left in the driver, over the events that it takes and the statements that it begins and answers.
-use Rattle.std.proofs.Common.{◌≡◌, ℕ, ◌+◌, ◌*◌, ◌-◌, ◌<◌, ◌≤◌, Bool, true, false, List, [], ◌∷◌, Option, Some, None, is_some, length, get_or, set, refl, sym, ap, ◌∙◌, subst, arith, inl, inr, if◌then◌else◌}
+use Rattle.std.proofs.Common.{◌≡◌, ℕ, ◌≤◌, false, List, [], ◌∷◌, Option, Some, None, length, refl, sym, ap, ◌∙◌, subst, arith, inl, inr}
 use Rattle.std.specs.Prelude.{sum_by}
-use Rattle.std.proofs.lemmas.Bool.{false≢true, cases_eq, cases_lt, cond_both}
-use Rattle.std.proofs.lemmas.List.{length-set, set_past, get_or_past, get_or-set_same, get_or-set_other}
+use Rattle.std.proofs.lemmas.Bool.{cases_eq, cases_lt, cond_both}
+use Rattle.std.proofs.lemmas.List.{length-set, set_past, get_or-set_same, get_or-set_other}
 use Rattle.vm_script.specs.declared.line.LineKind.{LineKind}
 use Rattle.vm_script.specs.declared.line.LineKind.TheVariants.{OnHandle, Raw}
 use Rattle.vm_wire.specs.declared.delivery.Delivery.{Delivery}
 use Rattle.vm_guest.specs.Events.{told, told_at, all_told, holds_back, held_back, given, taken_at, taken, all_taken, events_of, caught_up, settled}
-use Rattle.vm_guest.specs.Guest.{GuestState, no_process, process_in, process_at, with_process, seat_of}
+use Rattle.vm_guest.specs.Guest.{GuestState, no_process, process_in, process_at, seat_of}
 use Rattle.vm_guest.specs.Process.{ProcessState, is_blocked, handle_at}
 use Rattle.vm_guest.specs.declared.seat.Seat.{Seat}
 use Rattle.vm_realm.proofs.SumLemmas.{sum_set_few}

@@ -1,11 +1,11 @@
 -- A line that is begun moves the slice of its handle; a raw line moves none.
-use Rattle.std.proofs.Common.{◌≡◌, ◌⊎◌, ℕ, zero, suc, ◌+◌, ◌<◌, ◌≤◌, Bool, true, false, not, List, [], ◌∷◌, ◌++◌, Option, Some, None, is_some, length, get_or, set, refl, sym, ap, ◌∙◌, subst, arith, inl, inr, eqb, cond, if◌then◌else◌, take}
+use Rattle.std.proofs.Common.{◌≡◌, ◌⊎◌, ℕ, zero, suc, ◌+◌, ◌<◌, ◌≤◌, Bool, true, false, List, [], ◌∷◌, ◌++◌, Option, Some, None, is_some, length, refl, sym, ap, ◌∙◌, subst, arith, inl, inr, eqb, if◌then◌else◌, take}
 use Rattle.std.specs.Prelude.{slice_get}
 use Rattle.std.specs.List.{All, filter}
 use Rattle.std.specs.Option.{option_and_then}
 use Rattle.std.proofs.lemmas.Bool.{false≢true, cases_eq, cond-true, cond-false, eq-eqb, ne_eqb}
 use Rattle.std.proofs.lemmas.List.{append-nil, get_or-set_same, get_or-set_other, nil_from_length}
-use Rattle.std.proofs.lemmas.List.Elements.{filter-append, All-get_or, All-tail}
+use Rattle.std.proofs.lemmas.List.Elements.{filter-append, All-get_or}
 use Rattle.std.proofs.lemmas.Option.{none-some, same_Some}
 use Rattle.vm_frame.specs.declared.mem.Held.{Held}
 use Rattle.vm_link.specs.declared.link.Turn.TheVariants.{Did}
@@ -15,39 +15,35 @@ use Rattle.vm_script.specs.declared.line.Line.{Line}
 use Rattle.vm_script.specs.declared.line.LineKind.{LineKind}
 use Rattle.vm_script.specs.declared.line.LineKind.TheVariants.{OnHandle, Raw}
 use Rattle.vm_script.specs.declared.line.RawChain.{RawChain}
-use Rattle.vm_wire.specs.Message.{Posting, Returning}
+use Rattle.vm_wire.specs.Message.{Posting}
 use Rattle.vm_wire.specs.declared.delivery.Delivery.{Delivery}
 use Rattle.vm_exchange.specs.Range.{AreWords}
 use Rattle.vm_exchange.specs.declared.crossing.Crossing.{Crossing as CrossingOf}
 use Rattle.vm_exchange.specs.declared.way.Way.{Way}
 use Rattle.vm_exchange.specs.declared.way.Way.TheVariants.{Crosses, AnsweredHere, Waits, TouchesMemory}
 use Rattle.vm_handle.specs.Handle.{HandleState, way_from, has_opened}
-use Rattle.vm_host.specs.Part.{Call as WaitingCall}
 use Rattle.vm_guest.specs.Asking.{statement_of, statements_of, asked_in, asked_by, begins_with_events}
-use Rattle.vm_guest.specs.Events.{all_taken}
-use Rattle.vm_guest.specs.Guest.{GuestState, no_process, process_in, process_at, with_process}
-use Rattle.vm_guest.specs.Lines.{BeginsCall, Begins, GoesOut, AnswersItself, waiting}
+use Rattle.vm_guest.specs.Guest.{GuestState, no_process, process_at, with_process}
+use Rattle.vm_guest.specs.Lines.{BeginsCall, Begins, GoesOut, waiting}
 use Rattle.vm_guest.specs.Message.{Sending, OfCall, OfRaw, posting_of}
 use Rattle.vm_guest.specs.Orderly.{IsOrderly, lines_at}
 use Rattle.vm_guest.specs.Part.{Inbox, Outbox, postings, none_if, IssuesFor, Issues}
-use Rattle.vm_guest.specs.Process.{ProcessState, is_at_rest, is_crossing, some_if, kept_by, next, current, current_call, crossing_call, issuing, handle_at, with_handle, no_handle, doing, rested}
+use Rattle.vm_guest.specs.Process.{ProcessState, is_at_rest, is_crossing, next, current, current_call, crossing_call, issuing, handle_at, with_handle, no_handle, doing}
 use Rattle.vm_guest.specs.Steps.{all_if, Issued}
-use Rattle.vm_guest.specs.declared.asked.Asked.{Asked as AskedCall}
 use Rattle.vm_guest.specs.declared.asked.Statement.{Statement}
-use Rattle.vm_guest.specs.declared.status.Status.{Status}
-use Rattle.vm_guest.specs.declared.status.Status.TheVariants.{AtRest, Crossing, Blocked}
+use Rattle.vm_guest.specs.declared.status.Status.TheVariants.{AtRest, Crossing}
 use Rattle.vm_realm.specs.declared.step.Step.{Step}
 use Rattle.vm_realm.specs.declared.step.Step.TheVariants.{Issue}
 use Rattle.vm_realm.specs.World.{WorldState, jobs_out}
 use Rattle.vm_realm.specs.Inner.{Inner}
 use Rattle.vm_realm.specs.Steps.{inbox_of, after_driver, DriverDoes}
-use Rattle.vm_realm.specs.Slice.{Slice, Out, session_in, job_in, events_for, requests_of, calls_of, replies_of, out_from, out_of, is_on, out_at, slice_with, slice_at, SameEverywhere, SameElsewhere}
+use Rattle.vm_realm.specs.Slice.{Slice, session_in, job_in, events_for, requests_of, calls_of, replies_of, out_from, out_of, is_on, out_at, slice_with, slice_at, SameEverywhere}
 use Rattle.vm_realm.specs.Slice.Out.{Nowhere, Asked}
-use Rattle.vm_realm.specs.SliceSteps.{MayStart, StartsBy, Starts, SliceDoes, MovesOne, takes_by, takes_all, TakesNone, IsFirst}
+use Rattle.vm_realm.specs.SliceSteps.{MayStart, StartsBy, Starts, MovesOne, takes_by, TakesNone, IsFirst}
 use Rattle.vm_realm.specs.Sound.{IsSoundBy, CanRun, out_count, one_if, FitsOpened, OpenInOrder}
 use Rattle.vm_realm.proofs.SumLemmas.{place_within}
 use Rattle.vm_realm.proofs.ProcessLemmas.{next_is, kept_some, some_where}
-use Rattle.vm_realm.proofs.FrameLemmas.{SameParts, same_slice}
+use Rattle.vm_realm.proofs.FrameLemmas.{same_slice}
 use Rattle.vm_realm.proofs.LendLemmas.{Exchanges, with_one, nowhere, exchanged_slice, exchanged_others, line_at, call_there, rest_answered}
 use Rattle.vm_local.specs.declared.call.Call.TheVariants.{OpenHandle}
 use Rattle.vm_local.specs.declared.entry.Entry.{Entry}
@@ -61,13 +57,13 @@ abbrev posted_by : WorldState → ℕ → ProcessState → List Posting → Worl
 posted_by w n p ms = record w { guest = with_process w.guest n p; requests = w.requests ++ ms }
 
 -- it is nothing to another process
-others_posted : (w : WorldState) (m n : ℕ) (x : Posting) → x.request.who ≡ n → ¬ (m ≡ n) → filter (λ (y : Posting). eqb y.request.who m) (w.requests ++ x ∷ []) ≡ requests_of w m
+pub others_posted : (w : WorldState) (m n : ℕ) (x : Posting) → x.request.who ≡ n → ¬ (m ≡ n) → filter (λ (y : Posting). eqb y.request.who m) (w.requests ++ x ∷ []) ≡ requests_of w m
 others_posted w m n x who apart =
     let p : Posting → Bool = λ y. eqb y.request.who m in
     filter-append p w.requests (x ∷ [])
     ∙ (ap (λ ys. requests_of w m ++ ys) (cond-false (p x) (x ∷ []) [] (ne_eqb x.request.who m (λ same. apart (sym same ∙ who)))) ∙ append-nil (requests_of w m))
 
-own_posted : (w : WorldState) (n : ℕ) (x : Posting) → x.request.who ≡ n → filter (λ (y : Posting). eqb y.request.who n) (w.requests ++ x ∷ []) ≡ requests_of w n ++ x ∷ []
+pub own_posted : (w : WorldState) (n : ℕ) (x : Posting) → x.request.who ≡ n → filter (λ (y : Posting). eqb y.request.who n) (w.requests ++ x ∷ []) ≡ requests_of w n ++ x ∷ []
 own_posted w n x who =
     let p : Posting → Bool = λ y. eqb y.request.who n in
     filter-append p w.requests (x ∷ []) ∙ ap (λ ys. requests_of w n ++ ys) (cond-true (p x) (x ∷ []) [] (eq-eqb x.request.who n who))

@@ -1,9 +1,9 @@
 -- The count of a range in a sound journal is the number of its mappings that weren't given back.
-use Rattle.std.proofs.Common.{◌≡◌, ◌⊎◌, ℕ, zero, suc, ◌+◌, ◌*◌, ◌<◌, ◌≤◌, Bool, true, false, not, nat_lt, List, [], ◌∷◌, ◌++◌, Option, Some, None, length, get_or, set, map, is_some, refl, sym, ap, ◌∙◌, subst, arith, inl, inr, eqb, cond, if◌then◌else◌}
-use Rattle.std.specs.Prelude.{◌&&◌, slice_get, slice_set, IsSome}
+use Rattle.std.proofs.Common.{◌≡◌, ℕ, zero, suc, ◌+◌, ◌*◌, ◌≤◌, Bool, true, false, not, nat_lt, List, [], ◌∷◌, ◌++◌, Option, Some, None, set, is_some, refl, sym, ap, ◌∙◌, subst, arith, inl, inr, eqb, cond}
+use Rattle.std.specs.Prelude.{◌&&◌, slice_get}
 use Rattle.std.specs.Option.{option_map}
-use Rattle.std.specs.List.{All, Contains}
-use Rattle.std.proofs.lemmas.Bool.{false≢true, true≢false, cases_Bool, cases_lt, cases_eq, cond-true, cond-false, eq-eqb, ne_eqb, eqb-true, eqb-false, lt-ltb, and_parts, not-true}
+use Rattle.std.specs.List.{All}
+use Rattle.std.proofs.lemmas.Bool.{false≢true, true≢false, cases_eq, cond-true, cond-false, eq-eqb, ne_eqb, eqb-true, lt-ltb, and_parts}
 use Rattle.std.proofs.lemmas.List.Elements.{All-head, All-tail}
 use Rattle.std.proofs.lemmas.Option.{none-some, same_Some}
 use Rattle.vm_region.specs.declared.entry.RegionEntry.{RegionEntry}
@@ -46,7 +46,7 @@ abbrev pub AreCounted : List PlacedRange → Type 0
 AreCounted [] = Unit {0}
 AreCounted (r ∷ rs) = (1 ≤ r.pages) × (1 ≤ r.count) × AreCounted rs
 
-found_counted : (addr : ℕ) (rs : List PlacedRange) (r : PlacedRange) → AreCounted rs → placed_at addr rs ≡ Some r → 1 ≤ r.count
+pub found_counted : (addr : ℕ) (rs : List PlacedRange) (r : PlacedRange) → AreCounted rs → placed_at addr rs ≡ Some r → 1 ≤ r.count
 found_counted addr [] r all is = absurd (none-some r is)
 found_counted addr (x ∷ rs) r all is = by_test (eqb x.addr addr) is (found_counted addr rs r all.2)
   where
@@ -69,7 +69,7 @@ set_counted at count (r ∷ rs) all = by_test (eqb r.addr at) (eqb count 0) refl
         some (suc n) none = omega arith
     by_test false z is rest = (all.0, all.1, rest)
 
-other_count : (addr at count : ℕ) (rs : List PlacedRange) → ¬ (addr ≡ at) → placed_at addr (placed_counted at count rs) ≡ placed_at addr rs
+pub other_count : (addr at count : ℕ) (rs : List PlacedRange) → ¬ (addr ≡ at) → placed_at addr (placed_counted at count rs) ≡ placed_at addr rs
 other_count addr at count [] other = refl
 other_count addr at count (r ∷ rs) other = by_test (eqb r.addr at) refl (eqb count 0) (other_count addr at count rs other)
   where
@@ -112,11 +112,11 @@ push_counted : (rs : List PlacedRange) (r : PlacedRange) → AreCounted rs → 1
 push_counted [] r all pages count = (pages, count, tt)
 push_counted (x ∷ rs) r all pages count = (all.0, all.1, push_counted rs r all.2 pages count)
 
-other_push : (addr : ℕ) (rs : List PlacedRange) (r : PlacedRange) → ¬ (r.addr ≡ addr) → placed_at addr (rs ++ r ∷ []) ≡ placed_at addr rs
+pub other_push : (addr : ℕ) (rs : List PlacedRange) (r : PlacedRange) → ¬ (r.addr ≡ addr) → placed_at addr (rs ++ r ∷ []) ≡ placed_at addr rs
 other_push addr [] r other = cond-false (eqb r.addr addr) (Some r) None (ne_eqb r.addr addr other)
 other_push addr (x ∷ rs) r other = ap (λ o. cond (eqb x.addr addr) (Some x) o) (other_push addr rs r other)
 
-own_push : (addr : ℕ) (rs : List PlacedRange) (r : PlacedRange) → r.addr ≡ addr → placed_at addr rs ≡ None → placed_at addr (rs ++ r ∷ []) ≡ Some r
+pub own_push : (addr : ℕ) (rs : List PlacedRange) (r : PlacedRange) → r.addr ≡ addr → placed_at addr rs ≡ None → placed_at addr (rs ++ r ∷ []) ≡ Some r
 own_push addr [] r own none = cond-true (eqb r.addr addr) (Some r) None (eq-eqb r.addr addr own)
 own_push addr (x ∷ rs) r own none = by_test (eqb x.addr addr) none (own_push addr rs r own)
   where
@@ -125,14 +125,14 @@ own_push addr (x ∷ rs) r own none = by_test (eqb x.addr addr) none (own_push a
     by_test true none rest = absurd (none-some x (sym none))
     by_test false none rest = rest none
 
-meets_itself : (at pages size : ℕ) → 1 ≤ pages → 1 ≤ size → meets at pages at size ≡ true
+pub meets_itself : (at pages size : ℕ) → 1 ≤ pages → 1 ≤ size → meets at pages at size ≡ true
 meets_itself at pages size some more =
     let first : nat_lt at (at + 4096 * size) ≡ true = lt-ltb at (at + 4096 * size) (omega (arith, more)) in
     let second : nat_lt at (at + 4096 * pages) ≡ true = lt-ltb at (at + 4096 * pages) (omega (arith, some)) in
     ap (λ b. b && nat_lt at (at + 4096 * pages)) first ∙ second
 
 -- pages that are free start no range
-free_none : (at pages : ℕ) (rs : List PlacedRange) → 1 ≤ pages → AreCounted rs → is_free at pages rs ≡ true → placed_at at rs ≡ None
+pub free_none : (at pages : ℕ) (rs : List PlacedRange) → 1 ≤ pages → AreCounted rs → is_free at pages rs ≡ true → placed_at at rs ≡ None
 free_none at pages [] some all free = refl
 free_none at pages (r ∷ rs) some all free =
     let parts : _ = and_parts (not (meets at pages r.addr r.pages)) (is_free at pages rs) free in
@@ -199,7 +199,7 @@ map_counts addr at pages count rs all some (inr (one, free)) =
       ];
     })
 
-entry_counts : (addr : ℕ) (rs : List PlacedRange) (e : RegionEntry) → AreCounted rs → MapPages (e ∷ []) → MayFollow rs e → Counts addr rs (ranges_after rs e) e
+pub entry_counts : (addr : ℕ) (rs : List PlacedRange) (e : RegionEntry) → AreCounted rs → MapPages (e ∷ []) → MayFollow rs e → Counts addr rs (ranges_after rs e) e
 entry_counts addr rs (Map at pages count) all some may = map_counts addr at pages count rs all some.0 may
 entry_counts addr rs (Drop at count) all some (pages, is) =
     let e : RegionEntry = Drop at count in
@@ -209,7 +209,7 @@ entry_counts addr rs (Drop at count) all some (pages, is) =
 
 -- ---- all entries
 
-first_pages : (e : RegionEntry) (es : List RegionEntry) → MapPages (e ∷ es) → MapPages (e ∷ []) × MapPages es
+pub first_pages : (e : RegionEntry) (es : List RegionEntry) → MapPages (e ∷ es) → MapPages (e ∷ []) × MapPages es
 first_pages (Map at pages count) es some = ((some.0, tt), some.1)
 first_pages (Drop at count) es some = (tt, some)
 

@@ -1,10 +1,10 @@
 -- The memories that are with messages, in a session or in its job are those of buffers that aren't Idle.
-use Rattle.std.proofs.Common.{◌≡◌, ◌⊎◌, inl, inr, ℕ, zero, suc, ◌<◌, true, false, Bool, List, [], ◌∷◌, ◌++◌, All, length, map, get_or, Option, Some, None, refl, sym, ap, ◌∙◌, subst, arith}
-use Rattle.std.specs.List.{filter_map, cons_option, flat_map}
+use Rattle.std.proofs.Common.{◌≡◌, ℕ, suc, ◌<◌, true, false, List, [], ◌∷◌, ◌++◌, All, length, get_or, Option, Some, None, refl, sym, ap, ◌∙◌, subst, arith}
+use Rattle.std.specs.List.{filter_map, cons_option}
 use Rattle.std.specs.Prelude.{unwrap_or}
 use Rattle.std.specs.Option.{option_to_list}
 use Rattle.std.proofs.lemmas.Option.{none-some}
-use Rattle.std.proofs.lemmas.List.Elements.{All-nil, All-cons, All-append, All-head, All-tail, All-weaker}
+use Rattle.std.proofs.lemmas.List.Elements.{All-nil, All-cons, All-append, All-head, All-tail}
 use Rattle.v4l_const.specs.declared.model.Model.{Model}
 use Rattle.v4l_const.specs.declared.model.Model.TheVariants.{Capture, Convert}
 use Rattle.v4l_const.specs.Model.{queues as types_of, source_queue, picture_queue}
@@ -13,19 +13,17 @@ use Rattle.vm_frame.specs.declared.mem.Held.{Held}
 use Rattle.vm_job.specs.Job.{JobParts}
 use Rattle.vm_queue.specs.Buffers.{memories}
 use Rattle.vm_queue.specs.declared.queued.Queued.{Queued}
-use Rattle.vm_local.specs.declared.buffer.BufferState.{BufferState}
-use Rattle.vm_local.specs.declared.buffer.BufferState.TheVariants.{Queued as AsQueued, Owed as AsOwed}
+use Rattle.vm_local.specs.declared.buffer.BufferState.TheVariants.{Queued as AsQueued}
 use Rattle.vm_local.specs.declared.entry.Entry.{Entry}
 use Rattle.vm_local.specs.declared.entry.Entry.TheVariants.{Give}
 use Rattle.vm_local.specs.declared.owed.Owed.{Owed as OwedEntry}
 use Rattle.vm_local.specs.declared.owed.OwedItem.{OwedItem}
 use Rattle.vm_local.specs.declared.owed.OwedItem.TheVariants.{Buffer as OwedBuffer, Sync}
-use Rattle.vm_local.specs.State.{QueueState, LocalState, queue_of, buffer_of}
+use Rattle.vm_local.specs.State.{LocalState, queue_of, buffer_of}
 use Rattle.vm_local.specs.Kinds.{is_idle}
 use Rattle.vm_local.specs.Listed.{IsThere, IsOwedThere}
 use Rattle.vm_local.specs.Queue.{can_finish}
 use Rattle.vm_local.specs.Steps.{head}
-use Rattle.vm_local.specs.Log.{replay_from}
 use Rattle.vm_local.proofs.KeptLemmas.{some_same}
 use Rattle.vm_commute.proofs.ReachedLemmas.{owed_there, reached_after}
 use Rattle.vm_home.specs.Moves.{memory_at}
@@ -39,10 +37,9 @@ use Rattle.vm_session.specs.State.{SessionQueue, SessionState, opening_queue, qu
 use Rattle.vm_session.specs.declared.unsent.Unsent.{Unsent}
 use Rattle.vm_stands.specs.Flight.{IsHeldAt, GivesItem, GivesFirst, Leads, LeadAll}
 use Rattle.vm_stands.specs.Slice.{IsSlice}
-use Rattle.vm_stands.specs.Stands.{IsMemoryAt, StandsOn, Stands, IsNext, IsNextIf, IsHeadIf}
+use Rattle.vm_stands.specs.Stands.{IsMemoryAt, StandsOn, IsNext, IsNextIf, IsHeadIf}
 use Rattle.vm_stands.proofs.AheadLemmas.{reached_all}
 use Rattle.vm_stands.proofs.FinishedLemmas.{first_there}
-use Rattle.vm_stands.proofs.FlightLemmas.{made_steps}
 use Rattle.vm_stands.proofs.HoldLemmas.{queued_there}
 use Rattle.vm_realm.specs.Places.{queued_held, job_held}
 use Rattle.vm_realm.proofs.KeepStateLemmas.{step_idle, lead_idle}

@@ -1,14 +1,13 @@
 -- A reply that is collected keeps a slice sound.
-use Rattle.std.proofs.Common.{◌≡◌, ◌⊎◌, inl, inr, ℕ, zero, suc, ◌+◌, ◌<◌, ◌≤◌, ◌^◌, true, false, Bool, not, ◌||◌, List, [], ◌∷◌, ◌++◌, All, length, map, get_or, set, Option, Some, None, IsSome, refl, sym, ap, ◌∙◌, subst, arith, lit<, append_assoc, if◌then◌else◌, true≢false}
-use Rattle.std.specs.List.{filter_map}
-use Rattle.std.specs.Prelude.{IfSome, Contains, is_some, take, drop, slice_set}
+use Rattle.std.proofs.Common.{◌≡◌, ◌⊎◌, inl, inr, ℕ, zero, suc, ◌<◌, ◌≤◌, ◌^◌, true, false, Bool, not, ◌||◌, List, [], ◌∷◌, ◌++◌, All, length, map, get_or, set, Option, Some, None, IsSome, refl, sym, ap, ◌∙◌, subst, arith, lit<, append_assoc, if◌then◌else◌, true≢false}
+use Rattle.std.specs.List.{filter_map, flat_map}
+use Rattle.std.specs.Prelude.{IfSome, Contains, is_some, take, drop}
 use Rattle.std.proofs.lemmas.Bool.{false≢true}
 use Rattle.std.proofs.lemmas.Option.{none-some}
 use Rattle.std.proofs.lemmas.List.Elements.{All-nil, All-head, All-tail}
 use Rattle.v4l_const.specs.declared.errno.Errno.{Errno}
 use Rattle.vm_frame.specs.declared.mem.Held.{Held}
 use Rattle.vm_frame.specs.declared.mem.Mem.{Mem}
-use Rattle.vm_lease.specs.declared.lease_out.LeaseOut.{LeaseOut}
 use Rattle.vm_wire.specs.Message.{Posting, Returning}
 use Rattle.vm_wire.specs.Wire.{response_bytes, response_of, Answers, ReadsBack}
 use Rattle.vm_wire.specs.declared.command.Command.{Command}
@@ -25,53 +24,50 @@ use Rattle.vm_local.specs.declared.reply.Reply.{Reply}
 use Rattle.vm_local.specs.declared.reply.Reply.TheVariants.{Refused, Done}
 use Rattle.vm_local.specs.State.{LocalState}
 use Rattle.vm_local.specs.Same.{address_in}
-use Rattle.vm_local.specs.Log.{IsCall, IsLegal, called, after, replay_from}
+use Rattle.vm_local.specs.Log.{IsCall, IsLegal, called, replay_from}
 use Rattle.vm_local.proofs.KeptLemmas.{some_same, refused_call}
 use Rattle.vm_commute.specs.Commute.{may_cross}
 use Rattle.vm_commute.proofs.ReachedLemmas.{reached_after}
 use Rattle.vm_home.specs.Home.{home_of}
-use Rattle.vm_home.specs.Moves.{memory_at, is_refusal, is_stopping, stops, ComeBack, ComeWith, put_back, stopped_count, home_with}
+use Rattle.vm_home.specs.Moves.{memory_at, is_refusal, is_stopping, stops, queued_on, ComeBack, ComeWith, put_back, stopped_count, home_with}
 use Rattle.vm_home.specs.Reached.{IsReached}
 use Rattle.vm_home.proofs.ComeLemmas.{none_come}
-use Rattle.vm_home.proofs.StopLemmas.{put_long}
-use Rattle.vm_log.specs.Answers.{answered_with, replied}
-use Rattle.vm_log.specs.LegalLog.{LogState, IsSound as IsSoundLog, state_of, lease_in}
-use Rattle.vm_log.specs.declared.away.Away.TheVariants.{Nothing, Sent}
+use Rattle.vm_home.proofs.StopLemmas.{memories_long, put_long}
+use Rattle.vm_log.specs.Answers.{replied}
+use Rattle.vm_log.specs.LegalLog.{LogState, IsSound as IsSoundLog, state_of}
 use Rattle.vm_exchange.specs.declared.crossing.Crossing.{Crossing}
 use Rattle.vm_exchange.specs.Exchange.{command_in, response_to, IsAnswer}
-use Rattle.vm_exchange.specs.Range.{IsInRange}
 use Rattle.vm_exchange.specs.Messages.{flight_of}
 use Rattle.vm_exchange.proofs.RangeLemmas.{after_in_range}
 use Rattle.vm_exchange.proofs.ReplyLemmas.{answer_fits}
-use Rattle.vm_handle.specs.Answers.{AnswersWith, session_from, with_reply, awoken, delivered}
-use Rattle.vm_handle.specs.Handle.{HandleState, Keeps, id_of, crossing_from, opens_session, has_opened}
-use Rattle.vm_handle.specs.declared.stage.Stage.{Stage}
+use Rattle.vm_handle.specs.Answers.{session_from, with_reply, awoken, delivered}
+use Rattle.vm_handle.specs.Handle.{HandleState, Keeps, id_of, crossing_from, opens_session}
 use Rattle.vm_handle.specs.declared.stage.Stage.TheVariants.{AtRest, Underway}
-use Rattle.vm_handle.proofs.KeptLemmas.{IsKept, sound_replied}
+use Rattle.vm_handle.proofs.KeptLemmas.{sound_replied}
 use Rattle.vm_handle.proofs.LogLemmas.{reached as log_reached, legal_more, opened_more}
 use Rattle.vm_handle.proofs.ReplyLemmas.{is_answer, may_of}
 use Rattle.vm_guest.specs.Lines.{MayAnswer}
 use Rattle.vm_session.specs.State.{SessionState}
 use Rattle.vm_session.specs.declared.unsent.Unsent.{Unsent}
 use Rattle.vm_stands.specs.Ahead.{StopsNone}
-use Rattle.vm_stands.specs.Flight.{stops_queues, LeadAll}
-use Rattle.vm_stands.specs.Slice.{IsSlice, LeadWith, LeadAhead}
+use Rattle.vm_stands.specs.Flight.{LeadAll}
+use Rattle.vm_stands.specs.Slice.{LeadWith, LeadAhead}
 use Rattle.vm_stands.proofs.AheadLemmas.{in_turn, one_replay, last_logged, collects_refused}
 use Rattle.vm_stands.proofs.FlightLemmas.{all_replay}
 use Rattle.vm_realm.specs.Inner.{Inner, driver_state, id_in, under_way, unsent_in}
 use Rattle.vm_realm.specs.Laws.{GoesOnSoundly}
-use Rattle.vm_realm.specs.Places.{told_state, told_state_if, stops_last, stopped_by as stopped_many, queued_held, job_held}
+use Rattle.vm_realm.specs.Places.{stopped_by as stopped_many}
 use Rattle.vm_realm.specs.Slice.{Slice, Out, id_told, id_ahead, unsent_by, earlier_of}
 use Rattle.vm_realm.specs.Slice.Out.{Nowhere, Asked, Told}
 use Rattle.vm_realm.specs.SliceSteps.{holds_back, all_delivered, Collects}
-use Rattle.vm_realm.specs.Sound.{IsBefore, IsTold, IsOut, IsShut, IsSeated, HoldsFew, last_call_from, stopped_by, stopped_last, queue_told, IsStill, IsSoundSlice}
-use Rattle.vm_realm.specs.Users.{IsUsers, AreUsers}
-use Rattle.vm_realm.proofs.KeepStateLemmas.{IsAlike}
+use Rattle.vm_realm.specs.Sound.{IsBefore, IsTold, IsOut, IsSeated, HoldsFew, stopped_by, stopped_last, queue_told, IsStill, IsSoundSlice}
+use Rattle.vm_realm.specs.Users.{CanHold, IsUsers, AreUsers}
+use Rattle.vm_realm.proofs.CanHoldLemmas.{made_hold}
 use Rattle.vm_realm.proofs.KeepOutLemmas.{append_none, on_soundly}
 use Rattle.vm_realm.proofs.KeepOwnLemmas.{told_held, last_behind, still_free}
 use Rattle.vm_realm.proofs.KeepTakeLemmas.{told_handle, state_behind, kept_from, set_from, deliver_sound}
 use Rattle.vm_realm.proofs.KeepLendLemmas.{rests_free}
-use Rattle.vm_realm.proofs.KeepFrameLemmas.{lead_same, refusal_is, take_none, told_first, told_none, id_is}
+use Rattle.vm_realm.proofs.KeepFrameLemmas.{lead_same, refusal_is, take_none, told_first, told_none}
 use Rattle.vm_realm.proofs.KeepReplyLemmas.{one_answer, line_free, users_like, users_none, like_call}
 
 -- ---- events that were held back
@@ -123,21 +119,22 @@ led_on id r s line call reply es true false halts is reached quiet leads =
 -- ---- what was told
 
 -- What is so where the call of the reply is collected.
-record IsRead (x : Slice) (v : Inner) (line : ℕ) (call : Call) (r : Returning) (reply : Reply) (response : Response) : Type 0 where
-  sound : IsSoundSlice x v
-  out : x.out ≡ Told r
-  underway : x.handle.stage ≡ Underway line call
-  executed : v.executed ≡ Some (Called line call reply)
-  before : IsBefore (is_stopping call) x v.before
-  crosses : may_cross call ≡ true
-  told : response ≡ response_to (id_in x) (driver_state x) call reply
-  address : address_in reply < 2 ^ 64
-  memories : (next : LocalState) × ComeWith v.before next call reply r.held
-  ids : session_from x.handle.session call reply response ≡ id_ahead x.handle x.out
-  held_none : is_stopping call ≡ true → x.held ≡ []
-  events_none : is_stopping call ≡ true → x.events ≡ []
-  quiet : is_stopping call ≡ true → is_refusal reply ≡ false → unsent_in x.session ≡ []
-  log_sound : IsSoundLog (replied x.handle.log line call reply r.held)
+pub record IsRead (x : Slice) (v : Inner) (line : ℕ) (call : Call) (r : Returning) (reply : Reply) (response : Response) : Type 0 where
+  pub sound : IsSoundSlice x v
+  pub out : x.out ≡ Told r
+  pub underway : x.handle.stage ≡ Underway line call
+  pub executed : v.executed ≡ Some (Called line call reply)
+  pub before : IsBefore (is_stopping call) x v.before
+  pub crosses : may_cross call ≡ true
+  pub told : response ≡ response_to (id_in x) (driver_state x) call reply
+  pub address : address_in reply < 2 ^ 64
+  pub memories : (next : LocalState) × ComeWith v.before next call reply r.held
+  pub calls : IsCall v.before line call reply memories.0
+  pub ids : session_from x.handle.session call reply response ≡ id_ahead x.handle x.out
+  pub held_none : is_stopping call ≡ true → x.held ≡ []
+  pub events_none : is_stopping call ≡ true → x.events ≡ []
+  pub quiet : is_stopping call ≡ true → is_refusal reply ≡ false → unsent_in x.session ≡ []
+  pub log_sound : IsSoundLog (replied x.handle.log line call reply r.held)
 
 -- behind a stopping call that was done nothing is under way
 none_under : (x : Slice) (v : Inner) (line : ℕ) (call : Call) (r : Returning) (reply : Reply) (response : Response) → IsRead x v line call r reply response → is_stopping call ≡ true → is_refusal reply ≡ false →
@@ -284,14 +281,26 @@ put_users s (h ∷ hs) home m mem old new at =
       | inr put ↦ subst (λ i. IsUsers s i y) (sym put.0) (subst (λ z. IsUsers s n z) (some_same h.mem y y put.1) (All-head P h hs new))
     ]) (All-tail P h hs new) at
 
-append_from : {A : Type 0} (xs ys : List (Option A)) (m : ℕ) (a : A) → get_or (xs ++ ys) m None ≡ Some a → (get_or xs m None ≡ Some a) ⊎ (length xs ≤ m)
-append_from [] ys m a at = inr (omega arith)
-append_from (x ∷ xs) ys zero a at = inl at
-append_from (x ∷ xs) ys (suc m) a at =
-    elim (append_from xs ys m a at) as (λ _. (get_or xs m None ≡ Some a) ⊎ (suc (length xs) ≤ suc m)) [
-      | inl there ↦ inl there
-      | inr past ↦ inr (omega (arith, past))
+-- what is behind is one of those that are new
+append_from : (xs : List (Option Mem)) (hs : List Held) (m : ℕ) (a : Mem) → get_or (xs ++ map (λ (h : Held). Some h.mem) hs) m None ≡ Some a →
+    (get_or xs m None ≡ Some a) ⊎ ((length xs ≤ m) × (All (λ (h : Held). CanHold h.mem) hs → CanHold a))
+append_from [] [] m a at = absurd (none-some a at)
+append_from [] (h ∷ hs) zero a at = inr (omega arith, λ all. subst CanHold (some_same h.mem a a at) (All-head (λ (k : Held). CanHold k.mem) h hs all))
+append_from [] (h ∷ hs) (suc m) a at =
+    elim (append_from [] hs m a at) as (λ _. (get_or [] (suc m) None ≡ Some a) ⊎ ((length {A = Option Mem} [] ≤ suc m) × (All (λ (k : Held). CanHold k.mem) (h ∷ hs) → CanHold a))) [
+      | inl none ↦ absurd (none-some a none)
+      | inr rest ↦ inr (omega arith, λ all. rest.1 (All-tail (λ (k : Held). CanHold k.mem) h hs all))
     ]
+append_from (x ∷ xs) hs zero a at = inl at
+append_from (x ∷ xs) hs (suc m) a at =
+    elim (append_from xs hs m a at) as (λ _. (get_or xs m None ≡ Some a) ⊎ ((suc (length xs) ≤ suc m) × (All (λ (k : Held). CanHold k.mem) hs → CanHold a))) [
+      | inl there ↦ inl there
+      | inr past ↦ inr (omega (arith, past.0), past.1)
+    ]
+
+drop_front : {A : Type 0} (xs ys : List A) → drop (length xs) (xs ++ ys) ≡ ys
+drop_front [] ys = refl
+drop_front (x ∷ xs) ys = drop_front xs ys
 
 home_on : (x : Slice) (v : Inner) (line : ℕ) (call : Call) (r : Returning) (reply : Reply) (response : Response) (halts refused : Bool) → is_stopping call ≡ halts → is_refusal reply ≡ refused →
     IsRead x v line call r reply response → (m : ℕ) (mem : Mem) → home_of (home_with (driver_state x) call r.held x.handle.log.home) m ≡ Some mem → IsUsers (driver_state x) m mem
@@ -311,10 +320,15 @@ home_on x v line call r reply response true false halts refuses is m mem at =
     let same : v.before ≡ s = subst (λ es. LeadAll (id_in x) s es v.before) under (subst (λ b. IsBefore b x v.before) halts is.before) in
     let back : AreUsers s (take n r.held) = subst (λ z. AreUsers z (take (stopped_count z call) r.held)) same
     (subst (λ e. AreUsers v.before (take (stopped_many v.before e) r.held)) is.executed (is.sound.users.back r is.out)) in
-    elim (append_from (put_back s (take n r.held) x.handle.log.home) (map (λ (h : Held). Some h.mem) (drop n r.held)) m mem at) as (λ _. IsUsers s m mem) [
+    let reached : IsReached s = log_reached x.handle.log is.sound.handle.legal in
+    let come : ComeBack v.before is.memories.0 call r.held = come_back v.before is.memories.0 call reply r.held refuses is.memories.1 in
+    let next : IsReached is.memories.0 = reached_after v.before is.memories.0 (Called line call reply) (subst IsReached (sym same) reached) is.calls in
+    let many : length come.back ≡ n = memories_long v.before (flat_map (queued_on v.before) (stops v.before call)) come.back come.queued ∙ ap (λ z. stopped_count z call) same in
+    let new : drop n r.held ≡ come.fresh = ap (drop n) come.ordered ∙ (ap (λ k. drop k (come.back ++ come.fresh)) (sym many) ∙ drop_front come.back come.fresh) in
+    let fresh : All (λ (h : Held). CanHold h.mem) (drop n r.held) = subst (All (λ (h : Held). CanHold h.mem)) (sym new) (made_hold is.memories.0 call come.fresh next come.made) in
+    elim (append_from (put_back s (take n r.held) x.handle.log.home) (drop n r.held) m mem at) as (λ _. IsUsers s m mem) [
       | inl there ↦ put_users s (take n r.held) x.handle.log.home m mem is.sound.users.home back there
-      | inr past ↦ users_none s m mem (log_reached x.handle.log is.sound.handle.legal)
-          (omega (arith, past, put_long s (take n r.held) x.handle.log.home, is.sound.log.in_place.places))
+      | inr past ↦ users_none s m mem reached (omega (arith, past.0, put_long s (take n r.held) x.handle.log.home, is.sound.log.in_place.places)) (past.1 fresh)
     ]
 
 -- the messages' are as the state ahead has them
@@ -435,7 +449,7 @@ crossing_with : (o : Option Crossing) (c : Command) → command_in o ≡ Some c 
 crossing_with None c is = absurd (none-some c is)
 crossing_with (Some k) c is = (k, refl, some_same k.command c c is)
 
-line_same : (l m : ℕ) (c d : Call) → Underway l c ≡ Underway m d → (l ≡ m) × (c ≡ d)
+pub line_same : (l m : ℕ) (c d : Call) → Underway l c ≡ Underway m d → (l ≡ m) × (c ≡ d)
 line_same l m c d is = (line_of is, call_of is)
   where
     line_of : Underway l c ≡ Underway m d → l ≡ m
@@ -444,7 +458,7 @@ line_same l m c d is = (line_of is, call_of is)
     call_of : Underway l c ≡ Underway m d → c ≡ d
     call_of is = cc
 
-told_is : (x : Slice) (v : Inner) (o : Out) (r : Returning) → o ≡ Told r → IsOut o x v → IsTold x v r
+pub told_is : (x : Slice) (v : Inner) (o : Out) (r : Returning) → o ≡ Told r → IsOut o x v → IsTold x v r
 told_is x v o r at out = subst (λ z. IsOut z x v) at out
 
 -- with the line and the call of the handle
@@ -453,6 +467,7 @@ pub record IsToldOf (x : Slice) (v : Inner) (r : Returning) (line : ℕ) (call :
   pub next : LocalState
   pub executed : v.executed ≡ Some (Called line call reply)
   pub before : IsBefore (is_stopping call) x v.before
+  pub is_call : IsCall v.before line call reply next
   pub bytes : r.reply.bytes ≡ response_bytes (response_to (id_in x) (driver_state x) call reply)
   pub small : (id : ℕ) → response_to (id_in x) (driver_state x) call reply ≡ Opened id → id < 2 ^ 32
   pub address : address_in reply < 2 ^ 64
@@ -466,6 +481,7 @@ told_of x v r line call told same_line same_call =
       next = told.next;
       executed = told.executed;
       before = told.before;
+      is_call = told.is_call;
       bytes = told.bytes;
       small = told.small;
       address = told.address;
@@ -473,7 +489,7 @@ told_of x v r line call told same_line same_call =
       quiet = λ halts done. (told.quiet halts done).0;
     }))
 
-collected : (x : Slice) (v : Inner) (line : ℕ) (call : Call) (c : Command) (r : Returning) (reply : Reply) → IsSoundSlice x v → x.handle.stage ≡ Underway line call → x.out ≡ Told r →
+pub collected : (x : Slice) (v : Inner) (line : ℕ) (call : Call) (c : Command) (r : Returning) (reply : Reply) → IsSoundSlice x v → x.handle.stage ≡ Underway line call → x.out ≡ Told r →
     command_in (crossing_from x.handle call) ≡ Some c → (is_stopping call ≡ true → x.events ≡ []) → MayAnswer x.handle line call c r →
     IsAnswer (driver_state x) line call (response_of c r.reply.bytes) reply → IsRead x v line call r reply (response_of c r.reply.bytes)
 collected x v line call c r reply sound under at command events may answer =
@@ -505,6 +521,7 @@ collected x v line call c r reply sound under at command events may answer =
       told = read ∙ ap (response_to (id_in x) s call) is;
       address = subst (λ q. address_in q < 2 ^ 64) is of.address;
       memories = (of.next, subst (λ q. ComeWith v.before of.next call q r.held) is of.memories);
+      calls = subst (λ q. IsCall v.before line call q of.next) is of.is_call;
       ids = sym (ap (id_ahead x.handle) at ∙ (ap (λ t. id_told t x.handle.session r) under ∙ session_told x.handle call c line r.reply.bytes reply command answer));
       held_none = held_none;
       events_none = events;

@@ -1,5 +1,5 @@
 -- A frame that begins or comes back, and an event that is sent, keep a slice sound.
-use Rattle.std.proofs.Common.{◌≡◌, ◌⊎◌, inl, inr, ℕ, zero, suc, true, false, Bool, not, ◌&&◌, List, [], ◌∷◌, ◌++◌, map, set, get_or, Option, Some, None, IsSome, refl, sym, ap, ◌∙◌, subst, append_assoc, true≢false, if◌then◌else◌}
+use Rattle.std.proofs.Common.{◌≡◌, ℕ, zero, suc, true, false, Bool, ◌&&◌, List, [], ◌∷◌, ◌++◌, map, set, get_or, Option, Some, None, refl, sym, ap, ◌∙◌, subst, append_assoc, true≢false, if◌then◌else◌, length}
 use Rattle.std.proofs.lemmas.Bool.{false≢true}
 use Rattle.std.proofs.lemmas.Option.{none-some}
 use Rattle.std.proofs.lemmas.List.Elements.{All-nil, All-cons, All-append, All-head, All-tail}
@@ -10,7 +10,7 @@ use Rattle.v4l_const.specs.declared.errno.Errno.{Errno}
 use Rattle.v4l_const.specs.Model.{queues as types_of, source_queue, picture_queue, has_events}
 use Rattle.v4l_layout.specs.declared.buffer_rec.BufferRec.{BufferRec}
 use Rattle.v4l_rules.specs.Queues.{place_in}
-use Rattle.vm_frame.specs.Mem.{mem_rest}
+use Rattle.vm_frame.specs.Mem.{mem_bytes, mem_rest}
 use Rattle.vm_frame.specs.declared.mem.Held.{Held}
 use Rattle.vm_job.specs.Job.{JobParts, DoneParts, CameBack, HasPicture}
 use Rattle.vm_job.specs.declared.spec.JobSpec.{JobSpec}
@@ -31,7 +31,7 @@ use Rattle.vm_mem.specs.Lists.{first_of}
 use Rattle.vm_queue.specs.Buffers.{memories}
 use Rattle.vm_queue.specs.declared.queued.Queued.{Queued}
 use Rattle.vm_wire.specs.Buffers.{frame_event}
-use Rattle.vm_wire.specs.Message.{Posting, Returning}
+use Rattle.vm_wire.specs.Message.{Returning}
 use Rattle.vm_wire.specs.declared.delivery.Delivery.{Delivery}
 use Rattle.vm_wire.specs.declared.event.EventMsg.{EventMsg}
 use Rattle.vm_wire.specs.declared.event.EventMsg.TheVariants.{Dequeued, Happened}
@@ -39,7 +39,7 @@ use Rattle.vm_exchange.specs.Messages.{flight_of}
 use Rattle.vm_session.specs.Buffers.{queued_memories}
 use Rattle.vm_session.specs.Sound.{IsSound as IsSoundSession}
 use Rattle.vm_session.specs.State.{SessionQueue, SessionState, opening_queue, queue_of, pictures}
-use Rattle.vm_session.specs.Streaming.{can_begin, next_src, next_dst, next_spec, job_with, running_with, next_job, headless, begun, counted, frame_time, returned, sync_events, src_events, dst_event, events_of, finished_by, finished, oldest, settled, with_returned, sent, sent_of}
+use Rattle.vm_session.specs.Streaming.{can_begin, next_src, next_dst, next_spec, job_with, running_with, next_job, headless, begun, counted, frame_time, returned, sync_events, src_events, dst_event, events_of, finished_by, finished, settled, with_returned, sent, sent_of}
 use Rattle.vm_session.specs.declared.running.Running.{Running}
 use Rattle.vm_session.specs.declared.unsent.Unsent.{Unsent}
 use Rattle.vm_stands.specs.Ahead.{StopsNone}
@@ -56,8 +56,9 @@ use Rattle.vm_realm.specs.Slice.Out.{Nowhere, Asked, Kept, Told, Astray}
 use Rattle.vm_realm.specs.SliceSteps.{Begins, Finishes, Sends}
 use Rattle.vm_realm.specs.Sound.{IsBefore, IsTold, IsOut, IsSeated, IsSoundSlice, IsWholeSlice, spec_running, stopped_last}
 use Rattle.vm_realm.specs.Users.{IsUsers, AreUsers}
+use Rattle.vm_realm.proofs.CanHoldLemmas.{hold_like}
 use Rattle.vm_realm.proofs.KeepStateLemmas.{IsAlike, alike_then, alike_back, lead_alike, held_alike}
-use Rattle.vm_realm.proofs.KeepOutLemmas.{append_none, on_soundly, moved, IsQuietBehind, IsMove, posted_moved, moved_sound}
+use Rattle.vm_realm.proofs.KeepOutLemmas.{on_soundly, moved, posted_moved, moved_sound}
 use Rattle.vm_realm.proofs.KeepOwnLemmas.{still_free}
 use Rattle.vm_realm.proofs.KeepTakeLemmas.{some_of}
 use Rattle.vm_realm.proofs.KeepStopLemmas.{HasStopped, IsHalf, half_of, half_unready, half_lead, half_ahead, stops_all, stops_some, last_stopped}
@@ -225,7 +226,7 @@ begin_keeps x x' v sound (s, number, job, is, waits, can, next, after) whole =
 
 -- ---- a job comes back
 
-ahead_reached : (id : ℕ) (r s : LocalState) (executed : Option Entry) (es : List Unsent) → IsReached r → LeadAhead id r executed es s → IsReached s
+pub ahead_reached : (id : ℕ) (r s : LocalState) (executed : Option Entry) (es : List Unsent) → IsReached r → LeadAhead id r executed es s → IsReached s
 ahead_reached id r s None es reached leads = all_reached id r s es reached leads
 ahead_reached id r s (Some e) es reached leads = by_stop (stops_queues e) leads
   where
@@ -317,7 +318,7 @@ done_sound x v s r job done b t sound is has back reached ready by =
     let taken : AreUsers t (job_held (Some job)) = held_alike v.ahead t (job_held (Some job)) by.alike (subst (λ o. AreUsers v.ahead (job_held o)) has sound.users.job) in
     let events : All P (filter_map (λ (e : Unsent). e.held) (events_of s r done)) = events_held P s r done
     (λ h at. source_of job.src job.dst taken h (sym back.src ∙ at))
-    (dest_of t job.src job.dst done.job.dst taken back.dst.queue back.dst.index back.dst.rest) in
+    (dest_of t job.src job.dst done.job.dst taken back.dst.queue back.dst.index back.dst.rest back.dst.size) in
     let messages : All P (filter_map (λ (e : Unsent). e.held) (earlier_of x ++ (s.unsent ++ events_of s r done))) =
     subst (λ es. All P (filter_map (λ (e : Unsent). e.held) es)) (append_assoc (earlier_of x) s.unsent (events_of s r done)) (held_both P (earlier_of x ++ s.unsent) (events_of s r done) old events) in
     record {
@@ -350,9 +351,11 @@ done_sound x v s r job done b t sound is has back reached ready by =
     last_of (Some k) dst all = All-head (λ (z : Held). IsUsers t (memory_at t z.queue z.index) z.mem) dst [] (All-tail (λ (z : Held). IsUsers t (memory_at t z.queue z.index) z.mem) k (dst ∷ []) all)
 
     dest_of : (t : LocalState) (src : Option Held) (dst new : Held) → AreUsers t (option_to_list src ++ dst ∷ []) → new.queue ≡ dst.queue → new.index ≡ dst.index → mem_rest new.mem ≡ mem_rest dst.mem →
-        IsUsers t (memory_at t new.queue new.index) new.mem
-    dest_of t src dst new all queue index rest = subst (λ n. IsUsers t n new.mem) (λ j. memory_at t (sym queue j) (sym index j))
-        (λ b line off there owns kind. rest ∙ last_by t src dst all b line off there owns kind)
+        length (mem_bytes new.mem) ≡ length (mem_bytes dst.mem) → IsUsers t (memory_at t new.queue new.index) new.mem
+    dest_of t src dst new all queue index rest size = subst (λ n. IsUsers t n new.mem) (λ j. memory_at t (sym queue j) (sym index j)) (record {
+      pages = λ b line off there owns kind. rest ∙ (last_by t src dst all).pages b line off there owns kind;
+      holds = hold_like dst.mem new.mem rest size (last_by t src dst all).holds;
+    })
       where
         last_by : (t : LocalState) (src : Option Held) (dst : Held) → AreUsers t (option_to_list src ++ dst ∷ []) → IsUsers t (memory_at t dst.queue dst.index) dst.mem
         last_by t None dst all = All-head (λ (z : Held). IsUsers t (memory_at t z.queue z.index) z.mem) dst [] all

@@ -1,11 +1,11 @@
 -- Calls that stop a queue, and that the device does in a session, keep a slice sound.
-use Rattle.std.proofs.Common.{◌≡◌, ◌≢◌, ◌⊎◌, inl, inr, ℕ, zero, suc, ◌<◌, ◌^◌, ◌&&◌, true, false, Bool, not, List, [], ◌∷◌, ◌++◌, All, length, map, get_or, set, Option, Some, None, IsSome, refl, sym, ap, ◌∙◌, subst, arith, lit<, if◌then◌else◌, true≢false}
-use Rattle.std.specs.List.{filter_map, flat_map}
+use Rattle.std.proofs.Common.{◌≡◌, ◌≢◌, ◌⊎◌, inl, inr, ℕ, zero, suc, ◌<◌, ◌^◌, ◌&&◌, true, false, Bool, not, List, [], ◌∷◌, ◌++◌, All, length, get_or, set, Option, Some, None, IsSome, refl, sym, ap, ◌∙◌, subst, arith, lit<, if◌then◌else◌, true≢false}
+use Rattle.std.specs.List.{flat_map}
 use Rattle.std.specs.Option.{option_map, option_to_list}
-use Rattle.std.specs.Prelude.{IfSome, Result, Ok, Err, is_some, take}
+use Rattle.std.specs.Prelude.{Result, Ok, Err, is_some, take}
 use Rattle.std.proofs.lemmas.Bool.{false≢true, not-false, cases_eq}
 use Rattle.std.proofs.lemmas.Option.{none-some}
-use Rattle.std.proofs.lemmas.List.Elements.{All-nil, All-cons, All-head, All-tail, All-append}
+use Rattle.std.proofs.lemmas.List.Elements.{All-nil, All-cons, All-head, All-tail}
 use Rattle.std.proofs.lemmas.List.{get_or-set_same, get_or-set_other, length-set}
 use Rattle.v4l_const.specs.Errno.{errno_number}
 use Rattle.v4l_const.specs.declared.errno.Errno.{Errno}
@@ -44,31 +44,29 @@ use Rattle.vm_local.specs.Log.{IsCall, row_for, called, after}
 use Rattle.vm_local.proofs.KeptLemmas.{some_same, refused_call}
 use Rattle.vm_local.proofs.StepLemmas.{done_by}
 use Rattle.vm_commute.specs.Commute.{may_cross}
-use Rattle.vm_home.specs.Moves.{Place, memory_at, is_refusal, is_stopping, stops, stopped_count, queued_on, AreMemories, ComeBack, ComeWith}
+use Rattle.vm_home.specs.Moves.{Place, memory_at, is_refusal, is_stopping, stops, stopped_count, queued_on, ComeBack, ComeWith}
 use Rattle.vm_home.specs.Reached.{IsReached}
 use Rattle.vm_home.proofs.RowLemmas.{type_at}
 use Rattle.vm_home.proofs.StopLemmas.{memories_long}
 use Rattle.vm_exchange.specs.declared.crossing.Crossing.{Crossing}
-use Rattle.vm_exchange.specs.declared.way.Way.{Way}
 use Rattle.vm_exchange.specs.declared.way.Way.TheVariants.{Crosses, AnsweredHere}
-use Rattle.vm_exchange.specs.Exchange.{way_of, from_open, asks, crossing, crossing_of, response_to}
+use Rattle.vm_exchange.specs.Exchange.{way_of, asks, crossing, response_to}
 use Rattle.vm_exchange.specs.Range.{AreWords}
 use Rattle.vm_exchange.proofs.OutcomeLemmas.{outcome}
 use Rattle.vm_handle.specs.Answers.{session_from}
 use Rattle.vm_handle.specs.Handle.{HandleState, id_of, crossing_from}
 use Rattle.vm_handle.specs.declared.stage.Stage.TheVariants.{Underway}
 use Rattle.vm_session.specs.Buffers.{queued_memories}
-use Rattle.vm_session.specs.Rows.{reqbufs_row as s_reqbufs, streamoff_row as s_streamoff, IoctlRow, IoctlAnswer, ioctl_row, refused_or, or_no_memory, refusal_of, outcome_of, ioctl_outcome, held_after, puts_back, stops as stops_session}
+use Rattle.vm_session.specs.Rows.{reqbufs_row as s_reqbufs, streamoff_row as s_streamoff, IoctlRow, IoctlAnswer, ioctl_row, refused_or, or_no_memory, refusal_of, ioctl_outcome, held_after, puts_back}
 use Rattle.vm_session.proofs.ReadBackLemmas.{reqbufs_call_reads, streamoff_reads}
 use Rattle.vm_session.specs.Sound.{IsSound as IsSoundSession}
 use Rattle.vm_session.specs.State.{SessionQueue, SessionState, opening_queue, queue_of, is_quiet}
 use Rattle.vm_session.specs.declared.running.Running.{Running}
 use Rattle.vm_session.specs.declared.unsent.Unsent.{Unsent}
-use Rattle.vm_stands.specs.Flight.{stops_queues, LeadAll}
+use Rattle.vm_stands.specs.Flight.{LeadAll}
 use Rattle.vm_stands.specs.Laws.{frames_by, Along}
-use Rattle.vm_stands.specs.Slice.{IsSlice, LeadWith, LeadAhead, Stops}
+use Rattle.vm_stands.specs.Slice.{IsSlice, LeadWith, Stops}
 use Rattle.vm_stands.specs.Stands.{IsMemoryAt}
-use Rattle.vm_stands.proofs.AheadLemmas.{call_model}
 use Rattle.vm_stands.proofs.SliceLemmas.{all_reached}
 use Rattle.vm_stands.proofs.SliceCallLemmas.{slice_stops_for}
 use Rattle.vm_stands.proofs.SliceComeLemmas.{slice_refuses_for}
@@ -76,13 +74,13 @@ use Rattle.vm_stands.proofs.StopLemmas.{Quiet, quiet_is, back_from}
 use Rattle.vm_device.specs.Brought.{comes_with}
 use Rattle.vm_device.specs.Device.{DeviceState, session_of, with_session}
 use Rattle.vm_device.specs.Perform.{Answer, called as called_session, called_with, in_session, refused, is_busy, stops_in, must_wait}
-use Rattle.vm_realm.specs.Inner.{Inner, driver_state, id_in, under_way, unsent_in}
+use Rattle.vm_realm.specs.Inner.{Inner, driver_state, under_way, unsent_in}
 use Rattle.vm_realm.specs.Laws.{GoesOnSoundly, CallsKeepSlice, halts_queue}
-use Rattle.vm_realm.specs.Places.{told_state, told_state_if, stopped_by as stopped_many, queued_held, job_held}
-use Rattle.vm_realm.specs.Slice.{Slice, Out, id_ahead, session_in, earlier_of}
+use Rattle.vm_realm.specs.Places.{told_state, stopped_by as stopped_many, queued_held, job_held}
+use Rattle.vm_realm.specs.Slice.{Slice, id_ahead, session_in, earlier_of}
 use Rattle.vm_realm.specs.Slice.Out.{Asked, Kept, Told}
 use Rattle.vm_realm.specs.SliceSteps.{IsFirst, IsDeviceOf, IsServed, told_by}
-use Rattle.vm_realm.specs.Sound.{IsPosted, IsBefore, IsTold, IsSeated, spec_running, IsSoundSlice, IsWholeSlice}
+use Rattle.vm_realm.specs.Sound.{IsPosted, IsBefore, IsSeated, spec_running, IsSoundSlice, IsWholeSlice}
 use Rattle.vm_realm.specs.Users.{IsUsers, AreUsers}
 use Rattle.vm_realm.proofs.KeepStateLemmas.{IsAlike, lead_alike}
 use Rattle.vm_realm.proofs.KeepOutLemmas.{append_none, on_soundly}
@@ -91,7 +89,7 @@ use Rattle.vm_realm.proofs.KeepTakeLemmas.{stop_response}
 use Rattle.vm_realm.proofs.KeepFrameLemmas.{lead_same, take_none, told_first}
 use Rattle.vm_realm.proofs.KeepBusyLemmas.{places_all}
 use Rattle.vm_realm.proofs.KeepReplyLemmas.{users_like, like_call}
-use Rattle.vm_realm.proofs.KeepServeLemmas.{asked_same, IsDone, done_sound}
+use Rattle.vm_realm.proofs.KeepServeLemmas.{asked_same, done_sound}
 use Rattle.vm_realm.proofs.KeepOpenLemmas.{IsOutside, outside, none_along, none_runs, told_id, live_session, some_within}
 use Rattle.vm_realm.proofs.KeepPlainLemmas.{outcome_row, ok_same, not_ok}
 
@@ -187,7 +185,7 @@ bufs_row s t m n = record { id = refl; running = refl; unsent = refl; fresh = _;
 
 -- ---- users' memories
 
-part_all : (P : Held → Type 0) (qs : List SessionQueue) (p : ℕ) → All P (queued_memories qs) → All P (memories (get_or qs p opening_queue).queued)
+pub part_all : (P : Held → Type 0) (qs : List SessionQueue) (p : ℕ) → All P (queued_memories qs) → All P (memories (get_or qs p opening_queue).queued)
 part_all P [] p all = All-nil P
 part_all P (q ∷ qs) zero all = front (memories q.queued) all
   where

@@ -1,12 +1,12 @@
 -- A line that is begun keeps a slice sound.
-use Rattle.std.proofs.Common.{◌≡◌, ◌≢◌, ◌⊎◌, inl, inr, ℕ, zero, suc, ◌<◌, true, false, Bool, List, [], ◌∷◌, ◌++◌, All, length, get_or, set, replicate, Option, Some, None, refl, sym, ap, ◌∙◌, subst, arith, if◌then◌else◌}
-use Rattle.std.specs.List.{filter, filter_map}
-use Rattle.std.specs.Prelude.{IfSome, Contains, not}
+use Rattle.std.proofs.Common.{◌≡◌, ◌⊎◌, inl, inr, ℕ, zero, suc, ◌<◌, true, false, Bool, List, [], ◌∷◌, ◌++◌, All, length, get_or, replicate, Option, Some, None, refl, sym, ap, ◌∙◌, subst, arith, if◌then◌else◌, ◌≤◌}
+use Rattle.std.specs.List.{filter_map}
+use Rattle.std.specs.Prelude.{IfSome, Contains}
 use Rattle.std.specs.Option.{option_to_list}
 use Rattle.std.proofs.lemmas.Bool.{false≢true}
 use Rattle.std.proofs.lemmas.Option.{none-some}
 use Rattle.std.proofs.lemmas.List.{get_or_append_left, length-replicate}
-use Rattle.std.proofs.lemmas.List.Elements.{All-nil, All-cons, All-head, All-tail, All-contains, All-contains_itself, All-filter, All-weaker, Contains-push_cases}
+use Rattle.std.proofs.lemmas.List.Elements.{All-nil, All-cons, All-contains, All-contains_itself, All-filter, All-weaker, Contains-push_cases}
 use Rattle.v4l_const.specs.declared.errno.Errno.{Errno}
 use Rattle.v4l_const.specs.declared.errno.Errno.TheVariants.{Enomem}
 use Rattle.v4l_rules.specs.Refusals.{first_refusal}
@@ -18,14 +18,11 @@ use Rattle.vm_lease.specs.declared.lease_out.LeaseOut.{LeaseOut}
 use Rattle.vm_sg.specs.UserMemory.{user_memory}
 use Rattle.vm_wire.specs.Message.{Posting, Returning}
 use Rattle.vm_local.specs.declared.bound.Bound.{Bound}
-use Rattle.vm_local.specs.declared.bound.BoundKind.{BoundKind}
 use Rattle.vm_local.specs.declared.bound.BoundKind.TheVariants.{User}
 use Rattle.vm_local.specs.declared.call.Call.{Call}
 use Rattle.vm_local.specs.declared.call.Call.TheVariants.{OpenHandle, UAlloc, QBuf, DqBuf, DqEvent}
-use Rattle.vm_local.specs.declared.entry.Entry.{Entry}
 use Rattle.vm_local.specs.declared.entry.Entry.TheVariants.{Called}
 use Rattle.vm_local.specs.declared.reply.Reply.{Reply}
-use Rattle.vm_local.specs.declared.reply.Reply.TheVariants.{Refused}
 use Rattle.vm_local.specs.State.{LocalState}
 use Rattle.vm_local.specs.Live.{IsMade}
 use Rattle.vm_local.specs.Memory.{bytes_of, without_name}
@@ -37,33 +34,32 @@ use Rattle.vm_local.proofs.StepLemmas.{answered_by, done_by}
 use Rattle.vm_commute.specs.Commute.{may_cross}
 use Rattle.vm_home.specs.Home.{home_of, IsMemory, IsThere, AreInPlace}
 use Rattle.vm_home.specs.Laws.{IsUnrefused}
-use Rattle.vm_home.specs.Moves.{is_refusal, memory_at, touched, goes_along}
+use Rattle.vm_home.specs.Moves.{is_refusal, memory_at, goes_along}
 use Rattle.vm_home.specs.Reached.{IsReached}
 use Rattle.vm_home.proofs.FactLemmas.{Facts, facts_of}
 use Rattle.vm_home.proofs.LawLemmas.{queued_goes}
 use Rattle.vm_log.specs.Answers.{with_line, answered_with, Sends}
-use Rattle.vm_log.specs.LegalLog.{LogState, IsSound as IsSoundLog, state_after, state_of, number_away, lease_in}
+use Rattle.vm_log.specs.LegalLog.{LogState, state_after, state_of, number_away, lease_in}
 use Rattle.vm_log.specs.declared.away.Away.{Away}
-use Rattle.vm_log.specs.declared.away.Away.TheVariants.{Nothing, Sent, Lent}
+use Rattle.vm_log.specs.declared.away.Away.TheVariants.{Nothing, Sent}
 use Rattle.vm_exchange.specs.declared.crossing.Crossing.{Crossing}
 use Rattle.vm_exchange.specs.declared.way.Way.{Way}
 use Rattle.vm_exchange.specs.declared.way.Way.TheVariants.{Crosses, AnsweredHere, Waits, TouchesMemory}
-use Rattle.vm_exchange.specs.Exchange.{buffer_queued, way_of, crossing_of}
+use Rattle.vm_exchange.specs.Exchange.{crossing_of}
 use Rattle.vm_exchange.specs.Range.{AreWords}
 use Rattle.vm_exchange.proofs.FitLemmas.{queued_fits}
 use Rattle.vm_exchange.proofs.WayLemmas.{queued_index}
-use Rattle.vm_handle.specs.Answers.{row_from, makes, answered_by as answered_by_row, answered_here, AnswersHere}
-use Rattle.vm_handle.specs.Handle.{HandleState, Keeps, id_of, way_from, crossing_from}
-use Rattle.vm_handle.specs.declared.stage.Stage.{Stage}
-use Rattle.vm_handle.specs.declared.stage.Stage.TheVariants.{AtRest, Underway, Waiting}
+use Rattle.vm_handle.specs.Answers.{row_from, makes, answered_by as answered_by_row, AnswersHere}
+use Rattle.vm_handle.specs.Handle.{HandleState, id_of, way_from}
+use Rattle.vm_handle.specs.declared.stage.Stage.TheVariants.{Underway, Waiting}
 use Rattle.vm_handle.proofs.HereLemmas.{is_here, here_kinds}
 use Rattle.vm_handle.proofs.LogLemmas.{reached as log_reached}
 use Rattle.vm_handle.proofs.StartLemmas.{Rests, crossed, crosses_unrefused}
-use Rattle.vm_guest.specs.Lines.{GoesOut, AnswersItself, waiting}
+use Rattle.vm_guest.specs.Lines.{GoesOut, waiting}
 use Rattle.vm_guest.specs.Message.{OfCall, posting_of}
 use Rattle.vm_session.specs.State.{SessionState}
 use Rattle.vm_session.specs.declared.unsent.Unsent.{Unsent}
-use Rattle.vm_stands.specs.Laws.{GoesAlong, Along}
+use Rattle.vm_stands.specs.Laws.{Along}
 use Rattle.vm_stands.specs.Flight.{LeadAll}
 use Rattle.vm_stands.specs.Slice.{IsSlice, LeadAhead}
 use Rattle.vm_stands.proofs.SliceLemmas.{all_reached}
@@ -71,14 +67,16 @@ use Rattle.vm_realm.specs.Inner.{Inner, driver_state, id_in, under_way, unsent_i
 use Rattle.vm_realm.specs.Laws.{GoesOnSoundly}
 use Rattle.vm_realm.specs.Places.{queued_held, job_held}
 use Rattle.vm_realm.specs.Slice.{Slice, Out, id_ahead, earlier_of}
-use Rattle.vm_realm.specs.Slice.Out.{Nowhere, Asked, Kept, Told, Astray}
+use Rattle.vm_realm.specs.Slice.Out.{Nowhere, Asked, Told}
 use Rattle.vm_realm.specs.SliceSteps.{IsFirst, holds_back, MayStart, StartsBy, Starts}
-use Rattle.vm_realm.specs.Sound.{IsPosted, IsOut, IsShut, IsSeated, HoldsFew, last_call_from, stopped_by, stopped_last, queue_told, IsSoundSlice, IsWholeSlice}
+use Rattle.vm_realm.specs.Sound.{IsPosted, IsOut, IsSeated, HoldsFew, last_call_from, stopped_by, stopped_last, queue_told, IsSoundSlice, IsWholeSlice}
 use Rattle.vm_realm.specs.Users.{IsUsers, AreUsers}
-use Rattle.vm_realm.proofs.KeepStateLemmas.{IsAlike, alike_itself, lead_alike, lead_idle, users_alike, held_alike}
+use Rattle.vm_handle.proofs.UserLemmas.{ualloc_sizes}
+use Rattle.vm_realm.proofs.CanHoldLemmas.{hold_user}
+use Rattle.vm_realm.proofs.KeepStateLemmas.{IsAlike, alike_itself, lead_idle, users_alike, held_alike}
 use Rattle.vm_realm.proofs.KeepOutLemmas.{append_none, on_soundly}
 use Rattle.vm_realm.proofs.KeepShutLemmas.{shut_leads}
-use Rattle.vm_realm.proofs.KeepOwnLemmas.{leads_of, told_held, IsFree, IsOneOf, IsLogged, holds_none, own_sound}
+use Rattle.vm_realm.proofs.KeepOwnLemmas.{IsFree, IsOneOf, holds_none, own_sound}
 use Rattle.vm_realm.proofs.KeepTakeLemmas.{last_leads, kept_from, dqbuf_alike}
 use Rattle.vm_realm.proofs.KeepLendLemmas.{none_put, free_of, start_rests, rests_free, with_log, logged_sound, refused_sound}
 use Rattle.vm_realm.proofs.KeepBusyLemmas.{IsBusyHeld, busy_made, lead_busy, queued_busy, taken_busy}
@@ -301,7 +299,7 @@ dqevent_next : (s : LocalState) (line addr : ℕ) → IsAlike s (row_of s line a
 unfolding dqevent_row
 dqevent_next s line addr = record { opened = refl; model = refl; bound = refl; memory = λ u i. refl; long = λ m. refl }
 
-dqevent_alike : (s u : LocalState) (line : ℕ) (reply : Reply) → IsCall s line DqEvent reply u → IsAlike s u
+pub dqevent_alike : (s u : LocalState) (line : ℕ) (reply : Reply) → IsCall s line DqEvent reply u → IsAlike s u
 unfolding called
 dqevent_alike s u line reply leads =
     elim (answered_by (first_refusal (row_for s line DqEvent reply).refusals) (row_for s line DqEvent reply) s reply u leads) as (λ _. IsAlike s u) [
@@ -363,35 +361,41 @@ kind_line l off k o is = (line_of is, off_of is)
 -- users' memories that were made before stay
 users_old : (s : LocalState) (line : ℕ) (name : List ℕ) (len off m : ℕ) (mem : Mem) → m < length s.memories → IsUsers s m mem → IsUsers (user_next s line name len off) m mem
 unfolding user_next
-users_old s line name len off m mem made users = λ b l o there is kind.
-    let new : Bound = record { name = name; memory = length s.memories; kind = User line off } in
-    let same : bytes_of (user_next s line name len off) m ≡ bytes_of s m = get_or_append_left s.memories (replicate len 0 ∷ []) [] m made in
-    elim (Contains-push_cases (without_name s.bound name) new b there) as (λ _. mem_rest mem ≡ mem_rest (OfUser (user_memory l (length (bytes_of (user_next s line name len off) m)) o))) [
-      | inl old ↦ users b l o (old_name s.bound name b old) is kind ∙ ap (λ bs. mem_rest (OfUser (user_memory l (length bs) o))) (sym same)
-      | inr own ↦ absurd (omega (arith, made, ap (λ (z : Bound). z.memory) own, is))
-    ]
+users_old s line name len off m mem made users = record {
+  holds = users.holds;
+  pages = λ b l o there is kind.
+      let new : Bound = record { name = name; memory = length s.memories; kind = User line off } in
+      let same : bytes_of (user_next s line name len off) m ≡ bytes_of s m = get_or_append_left s.memories (replicate len 0 ∷ []) [] m made in
+      elim (Contains-push_cases (without_name s.bound name) new b there) as (λ _. mem_rest mem ≡ mem_rest (OfUser (user_memory l (length (bytes_of (user_next s line name len off) m)) o))) [
+        | inl old ↦ users.pages b l o (old_name s.bound name b old) is kind ∙ ap (λ bs. mem_rest (OfUser (user_memory l (length bs) o))) (sym same)
+        | inr own ↦ absurd (omega (arith, made, ap (λ (z : Bound). z.memory) own, is))
+      ];
+}
 
 get_behind : {A : Type 0} (xs : List A) (y d : A) → get_or (xs ++ y ∷ []) (length xs) d ≡ y
 get_behind [] y d = refl
 get_behind (x ∷ xs) y d = get_behind xs y d
 
 -- the one that is made is as its name says
-users_new : (s : LocalState) (line : ℕ) (name : List ℕ) (len off : ℕ) → IsReached s → IsUsers (user_next s line name len off) (length s.memories) (OfUser (user_memory line len off))
+users_new : (s : LocalState) (line : ℕ) (name : List ℕ) (len off : ℕ) → IsReached s → 1 ≤ len → off ≤ 4095 → IsUsers (user_next s line name len off) (length s.memories) (OfUser (user_memory line len off))
 unfolding user_next
-users_new s line name len off reached = λ b l o there is kind.
-    let new : Bound = record { name = name; memory = length s.memories; kind = User line off } in
-    let bytes : bytes_of (user_next s line name len off) (length s.memories) ≡ replicate len 0 = get_behind s.memories (replicate len 0) [] in
-    let long : length (bytes_of (user_next s line name len off) (length s.memories)) ≡ len = ap (λ (bs : List ℕ). length bs) bytes ∙ length-replicate len 0 in
-    elim (Contains-push_cases (without_name s.bound name) new b there)
-    as (λ _. mem_rest (OfUser (user_memory line len off)) ≡ mem_rest (OfUser (user_memory l (length (bytes_of (user_next s line name len off) (length s.memories))) o))) [
-      | inl old ↦
-          let f : Facts s = facts_of s reached in
-          let made : b.memory < length s.memories = All-contains (λ (z : Bound). IsMade s z.memory) s.bound b f.sound.backed.1 (old_name s.bound name b old) in
-          absurd (omega (arith, made, is))
-      | inr own ↦
-          let same : (line ≡ l) × (off ≡ o) = kind_line line off l o (ap (λ (z : Bound). z.kind) own ∙ kind) in
-          (λ j. mem_rest (OfUser (user_memory (same.0 j) (sym long j) (same.1 j))))
-    ]
+users_new s line name len off reached some in_page = record {
+  holds = hold_user line len off some in_page;
+  pages = λ b l o there is kind.
+      let new : Bound = record { name = name; memory = length s.memories; kind = User line off } in
+      let bytes : bytes_of (user_next s line name len off) (length s.memories) ≡ replicate len 0 = get_behind s.memories (replicate len 0) [] in
+      let long : length (bytes_of (user_next s line name len off) (length s.memories)) ≡ len = ap (λ (bs : List ℕ). length bs) bytes ∙ length-replicate len 0 in
+      elim (Contains-push_cases (without_name s.bound name) new b there)
+      as (λ _. mem_rest (OfUser (user_memory line len off)) ≡ mem_rest (OfUser (user_memory l (length (bytes_of (user_next s line name len off) (length s.memories))) o))) [
+        | inl old ↦
+            let f : Facts s = facts_of s reached in
+            let made : b.memory < length s.memories = All-contains (λ (z : Bound). IsMade s z.memory) s.bound b f.sound.backed.1 (old_name s.bound name b old) in
+            absurd (omega (arith, made, is))
+        | inr own ↦
+            let same : (line ≡ l) × (off ≡ o) = kind_line line off l o (ap (λ (z : Bound). z.kind) own ∙ kind) in
+            (λ j. mem_rest (OfUser (user_memory (same.0 j) (sym long j) (same.1 j))))
+      ];
+}
 
 -- the memories that aren't with the driver were made
 one_made : (x : Slice) (v : Inner) (held : List Held) → IsFree x v → IsOneOf x held → All (λ (h : Held). memory_at (driver_state x) h.queue h.index < length (driver_state x).memories) held
@@ -442,6 +446,9 @@ some_inside [] m a is = absurd (none-some a is)
 some_inside (x ∷ xs) zero a is = omega arith
 some_inside (x ∷ xs) (suc m) a is = omega (arith, some_inside xs m a is)
 
+ualloc_passed : (s : LocalState) (line addr len off : ℕ) (name : List ℕ) → first_refusal (row_of s line addr (UAlloc name len off)).refusals ≡ None → (1 ≤ len) × (len ≤ 925696) × (off ≤ 4095)
+ualloc_passed s line addr len off name passed = ualloc_sizes s line len off name passed
+
 ualloc_sound : (x : Slice) (v : Inner) (line : ℕ) (name : List ℕ) (len off : ℕ) → IsSoundSlice x v → MayStart x →
     IsWholeSlice (with_log x (answered_with (with_line x.handle.log) line (UAlloc name len off) (row_from x.handle.log line (UAlloc name len off)).reply (x.handle.log.home ++ Some (OfUser (user_memory line len off)) ∷ []))) →
     GoesOnSoundly (with_log x (answered_with (with_line x.handle.log) line (UAlloc name len off) (row_from x.handle.log line (UAlloc name len off)).reply (x.handle.log.home ++ Some (OfUser (user_memory line len off)) ∷ []))) v
@@ -459,6 +466,7 @@ ualloc_sound x v line name len off sound may whole =
     let went : _ = done_by (first_refusal (row_for s line call reply).refusals) (row_for s line call reply) s reply (state_of log) (ualloc_plain s line 0 name len off) is_call in
     let is : state_of log ≡ user_next s line name len off = went.3 ∙ ualloc_is s line (address_in reply) name len off in
     let many : length l.home ≡ length s.memories = sound.log.in_place.places in
+    let sizes : (1 ≤ len) × (len ≤ 925696) × (off ≤ 4095) = ualloc_passed s line (address_in reply) len off name went.0 in
     logged_sound x v log may.out (own_sound x v (record x.handle { log = log }) line call reply free (record {
       is_call = is_call;
       entries = refl;
@@ -469,7 +477,7 @@ ualloc_sound x v line name len off sound may whole =
           (elim (get_new l.home mem m k (kept_from (state_of log) (l.home ++ Some mem ∷ []) m k there)) as (λ _. IsUsers (user_next s line name len off) m k) [
             | inl old ↦ users_old s line name len off m k (omega (arith, some_inside l.home m k old, many)) (sound.users.home m k old)
             | inr new ↦ subst (λ n. IsUsers (user_next s line name len off) n k) (sym (new.0 ∙ many))
-                (subst (λ z. IsUsers (user_next s line name len off) (length s.memories) z) new.1 (users_new s line name len off free.reached))
+                (subst (λ z. IsUsers (user_next s line name len off) (length s.memories) z) new.1 (users_new s line name len off free.reached sizes.0 sizes.2))
           ]);
     }) (inl refl) (λ z. none_either (is_refusal reply))
     (λ held one users. subst (λ z. AreUsers z held) (sym is) (carried s line name len off held (one_made x v held free one) users)) whole.log whole.handle)

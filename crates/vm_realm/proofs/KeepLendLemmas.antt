@@ -1,19 +1,17 @@
 -- A lease that goes out or comes back keeps a slice sound, and a call that the driver refuses.
-use Rattle.std.proofs.Common.{◌≡◌, ◌⊎◌, inl, inr, ℕ, true, false, Bool, not, nat_lt, List, [], ◌∷◌, ◌++◌, length, set, Option, Some, None, refl, sym, ap, ◌∙◌, subst, if◌then◌else◌, true≢false}
+use Rattle.std.proofs.Common.{◌≡◌, inl, inr, ℕ, true, false, Bool, List, [], length, set, Option, Some, None, refl, sym, ap, ◌∙◌, subst, if◌then◌else◌}
 use Rattle.std.proofs.lemmas.Bool.{false≢true}
 use Rattle.std.proofs.lemmas.Option.{none-some}
 use Rattle.std.specs.Prelude.{IfSome, All, Contains}
 use Rattle.v4l_const.specs.declared.errno.Errno.{Errno}
 use Rattle.v4l_rules.specs.Refusals.{first_refusal}
-use Rattle.vm_frame.specs.Mem.{mem_rest}
-use Rattle.vm_frame.specs.declared.mem.Held.{Held}
+use Rattle.vm_frame.specs.Mem.{mem_bytes}
 use Rattle.vm_frame.specs.declared.mem.Mem.{Mem}
-use Rattle.vm_lease.specs.Lease.{LeaseParts, IsOf, IsDoneOn, CameBackDone}
+use Rattle.vm_lease.specs.Lease.{LeaseParts, CameBackDone}
 use Rattle.vm_lease.specs.declared.lease_out.LeaseOut.{LeaseOut}
-use Rattle.vm_wire.specs.Message.{Posting, Returning}
+use Rattle.vm_wire.specs.Message.{Posting}
 use Rattle.vm_local.specs.declared.call.Call.{Call}
 use Rattle.vm_local.specs.declared.call.Call.TheVariants.{Peek, Hash, Poke, Fill}
-use Rattle.vm_local.specs.declared.entry.Entry.{Entry}
 use Rattle.vm_local.specs.declared.entry.Entry.TheVariants.{Called}
 use Rattle.vm_local.specs.declared.reply.Reply.{Reply}
 use Rattle.vm_local.specs.declared.reply.Reply.TheVariants.{Refused}
@@ -22,7 +20,7 @@ use Rattle.vm_local.specs.Memory.{bytes_of}
 use Rattle.vm_local.specs.Record.{without_bytes}
 use Rattle.vm_local.specs.Same.{address_in}
 use Rattle.vm_local.specs.Calls.{row_of, read_row, hash_row, write_row, fill_row}
-use Rattle.vm_local.specs.Log.{IsCall, IsLegal, row_for, called}
+use Rattle.vm_local.specs.Log.{IsCall, row_for, called}
 use Rattle.vm_local.proofs.KeptLemmas.{some_same, refused_call}
 use Rattle.vm_local.proofs.StepLemmas.{answered_by}
 use Rattle.vm_local.proofs.WithoutBytesLemmas.{long_of, same_call}
@@ -30,14 +28,14 @@ use Rattle.vm_commute.specs.Commute.{may_cross}
 use Rattle.vm_home.specs.Home.{home_of}
 use Rattle.vm_home.specs.Moves.{is_refusal, touches_bytes, touched, goes_along}
 use Rattle.vm_home.specs.Reached.{IsReached}
-use Rattle.vm_log.specs.Answers.{with_line, answered_with, GoesOut, Leases, given_back}
-use Rattle.vm_log.specs.LegalLog.{LogState, IsSound as IsSoundLog, state_after, state_of, lease_in}
+use Rattle.vm_log.specs.Answers.{with_line, answered_with, Leases, given_back}
+use Rattle.vm_log.specs.LegalLog.{LogState, state_after, state_of, lease_in}
 use Rattle.vm_log.specs.declared.away.Away.{Away}
 use Rattle.vm_log.specs.declared.away.Away.TheVariants.{Nothing, Sent, Lent}
 use Rattle.vm_log.specs.declared.leased.Leased.{Leased}
 use Rattle.vm_log.specs.declared.leased.Leased.TheVariants.{Out as LeaseOutOf, Answered, Idle}
 use Rattle.vm_handle.specs.Answers.{row_from}
-use Rattle.vm_handle.specs.Handle.{HandleState, Keeps, id_of, IsAlong, FitsStage}
+use Rattle.vm_handle.specs.Handle.{id_of, IsAlong, FitsStage}
 use Rattle.vm_handle.specs.declared.stage.Stage.{Stage}
 use Rattle.vm_handle.specs.declared.stage.Stage.TheVariants.{AtRest, Underway, Waiting}
 use Rattle.vm_handle.proofs.LogLemmas.{reached as log_reached}
@@ -51,11 +49,12 @@ use Rattle.vm_realm.specs.Places.{told_state}
 use Rattle.vm_realm.specs.Slice.{Slice, Out, id_ahead, earlier_of}
 use Rattle.vm_realm.specs.Slice.Out.{Nowhere, Asked, Kept, Told, Astray}
 use Rattle.vm_realm.specs.SliceSteps.{holds_back, MayStart, Lends, GetsBack}
-use Rattle.vm_realm.specs.Sound.{IsOut, IsShut, IsSeated, HoldsFew, last_call_from, stopped_by, stopped_last, queue_told, IsSoundSlice, IsWholeSlice}
+use Rattle.vm_realm.specs.Sound.{IsOut, IsSeated, HoldsFew, last_call_from, stopped_by, stopped_last, queue_told, IsSoundSlice, IsWholeSlice}
 use Rattle.vm_realm.specs.Users.{IsUsers, AreUsers}
+use Rattle.vm_realm.proofs.CanHoldLemmas.{hold_like, lent_left}
 use Rattle.vm_realm.proofs.KeepStateLemmas.{IsAlike, alike_itself, users_alike, held_alike}
 use Rattle.vm_realm.proofs.KeepOutLemmas.{on_soundly}
-use Rattle.vm_realm.proofs.KeepOwnLemmas.{told_held, IsFree, IsOneOf, IsLogged, own_sound}
+use Rattle.vm_realm.proofs.KeepOwnLemmas.{told_held, IsFree, own_sound}
 use Rattle.vm_realm.proofs.KeepTakeLemmas.{last_leads, kept_from, set_from}
 
 -- ---- a slice of which no call is out
@@ -270,7 +269,7 @@ touch_quiet s line (Fill m seed) reply touches = none_either (is_refusal reply)
 touch_quiet s line call reply touches = absurd (false≢true touches)
 
 -- while a lease is out no call is
-lent_rests : (id : ℕ) (s : LocalState) (away : Away) (unanswered : Bool) (stage : Stage) (entry : LeaseOut) → lease_in away ≡ Some entry → FitsStage id s away unanswered stage →
+pub lent_rests : (id : ℕ) (s : LocalState) (away : Away) (unanswered : Bool) (stage : Stage) (entry : LeaseOut) → lease_in away ≡ Some entry → FitsStage id s away unanswered stage →
     (stage ≡ AtRest) × (touches_bytes entry.call ≡ true)
 lent_rests id s Nothing unanswered stage entry at fits = absurd (none-some entry at)
 lent_rests id s (Sent number) unanswered stage entry at fits = absurd (none-some entry at)
@@ -285,7 +284,7 @@ lent_rests id s (Lent e) unanswered (Waiting line call) entry at fits = absurd (
     not_nothing : Lent e ≡ Nothing → ⊥
     not_nothing is = cc
 
-rests_nowhere : (x : Slice) (v : Inner) (o : Out) → x.handle.stage ≡ AtRest → IsOut o x v → o ≡ Nowhere
+pub rests_nowhere : (x : Slice) (v : Inner) (o : Out) → x.handle.stage ≡ AtRest → IsOut o x v → o ≡ Nowhere
 rests_nowhere x v o rest out = by_out o out
   where
     apart : (l : ℕ) (c : Call) → x.handle.stage ≡ Underway l c → ⊥
@@ -313,8 +312,12 @@ back_sound x v entry lease sound lent back whole =
     let is_call : IsCall s lease.line lease.call lease.reply (state_of log) =
     last_leads l.model l.entries (Called lease.line lease.call lease.reply) sound.handle.legal whole.handle.legal in
     let on : IsAlike s (state_of log) = touch_alike s (state_of log) lease.line lease.call lease.reply touches is_call in
-    let lent_mem : IsUsers s (touched s lease.call) lease.mem = λ b bound_line off there owns kind. back.done.rest
-    ∙ subst (λ c. IsUsers s (touched s c) entry.mem.value) (sym back.call) (sound.users.lent entry lent) b bound_line off there owns kind in
+    let before : IsUsers s (touched s lease.call) entry.mem.value = subst (λ c. IsUsers s (touched s c) entry.mem.value) (sym back.call) (sound.users.lent entry lent) in
+    let long : length (mem_bytes lease.mem) ≡ length (mem_bytes entry.mem.value) = ap (λ (bs : List ℕ). length bs) back.done.bytes ∙ lent_left l entry sound.log lent in
+    let lent_mem : IsUsers s (touched s lease.call) lease.mem = record {
+      pages = λ b bound_line off there owns kind. back.done.rest ∙ before.pages b bound_line off there owns kind;
+      holds = hold_like entry.mem.value lease.mem back.done.rest long before.holds;
+    } in
     logged_sound x v log at (own_sound x v (record x.handle { log = log }) lease.line lease.call lease.reply (free_of x v sound at (rests_free x.handle.stage rest.0)) (record {
       is_call = is_call;
       entries = refl;

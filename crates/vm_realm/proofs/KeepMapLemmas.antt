@@ -1,30 +1,27 @@
 -- A frame that is mapped keeps a slice sound.
-use Rattle.std.proofs.Common.{◌≡◌, ◌⊎◌, inl, inr, ℕ, ◌<◌, ◌^◌, true, false, Bool, not, List, [], ◌∷◌, ◌++◌, Option, Some, None, IsSome, refl, sym, ap, ◌∙◌, subst, lit<, true≢false}
+use Rattle.std.proofs.Common.{◌≡◌, ◌⊎◌, inl, inr, ℕ, ◌<◌, ◌^◌, true, Bool, not, List, [], ◌++◌, Option, Some, None, IsSome, refl, sym, ap, ◌∙◌, subst, arith, lit<}
 use Rattle.std.specs.Option.{option_to_list}
-use Rattle.std.specs.Prelude.{IfSome, Result, Ok, Err}
+use Rattle.std.specs.Prelude.{Ok}
 use Rattle.std.proofs.lemmas.Bool.{false≢true, not-false}
 use Rattle.v4l_const.specs.Errno.{errno_number}
-use Rattle.v4l_const.specs.declared.errno.Errno.{Errno}
 use Rattle.v4l_const.specs.declared.errno.Errno.TheVariants.{Enomem}
 use Rattle.v4l_rules.specs.Refusals.{first_refusal}
-use Rattle.vm_frame.specs.declared.mem.Held.{Held}
 use Rattle.vm_region.specs.Region.{RegionState, Maps, range_of}
+use Rattle.vm_region.specs.declared.live_range.LiveRange.{LiveRange}
 use Rattle.vm_wire.specs.Buffers.{buffer_offset}
-use Rattle.vm_wire.specs.Message.{Posting, Returning}
+use Rattle.vm_wire.specs.Message.{Posting}
 use Rattle.vm_wire.specs.Message.Ask.{Judged}
 use Rattle.vm_wire.specs.declared.command.Command.{Command}
 use Rattle.vm_wire.specs.declared.command.Command.TheVariants.{Map}
 use Rattle.vm_wire.specs.declared.response.Response.TheVariants.{Refused as Denied, Opened, Mapped as MappedAt}
 use Rattle.vm_local.specs.declared.call.Call.{Call}
 use Rattle.vm_local.specs.declared.call.Call.TheVariants.{Mmap}
-use Rattle.vm_local.specs.declared.entry.Entry.TheVariants.{Called}
 use Rattle.vm_local.specs.declared.reply.Reply.{Reply}
 use Rattle.vm_local.specs.declared.reply.Reply.TheVariants.{Refused, Mapped}
 use Rattle.vm_local.specs.State.{LocalState, queue_of, buffer_of}
 use Rattle.vm_local.specs.Same.{address_in}
 use Rattle.vm_local.specs.Calls.{row_of, mmap_row}
 use Rattle.vm_local.specs.Log.{IsCall, answered, row_for, called}
-use Rattle.vm_local.proofs.KeptLemmas.{some_same}
 use Rattle.vm_local.proofs.StepLemmas.{passes, answered_by}
 use Rattle.vm_home.specs.Moves.{memory_at}
 use Rattle.vm_home.specs.Reached.{IsReached}
@@ -46,17 +43,18 @@ use Rattle.vm_stands.proofs.SliceLemmas.{all_reached}
 use Rattle.vm_stands.proofs.StillLemmas.{ways_stay}
 use Rattle.vm_device.specs.Device.{DeviceState, session_of}
 use Rattle.vm_device.specs.Mappings.{frame_in, pages_of}
-use Rattle.vm_device.specs.Perform.{Answer, MapsFound, MapsFrame, refused, with_region, must_wait}
+use Rattle.vm_device.specs.Perform.{Answer, MapsFound, MapsFrame, refused, with_region}
 use Rattle.vm_realm.specs.Inner.{Inner, driver_state}
-use Rattle.vm_realm.specs.Laws.{GoesOnSoundly, MapsLow, MappingsKeepSlice, makes_mapping}
+use Rattle.vm_realm.specs.Laws.{CallsKeepSlice, GoesOnSoundly, makes_mapping}
+use Rattle.vm_realm.specs.Mapped.{AreLow}
 use Rattle.vm_realm.specs.Slice.{Slice, id_ahead, session_in, earlier_of}
 use Rattle.vm_realm.specs.Slice.Out.{Asked, Kept, Told}
 use Rattle.vm_realm.specs.SliceSteps.{IsDeviceOf, IsServed, told_by}
-use Rattle.vm_realm.specs.Sound.{IsPosted, IsSeated, IsSoundSlice, IsWholeSlice}
+use Rattle.vm_realm.specs.Sound.{IsPosted, IsSeated, IsSoundSlice}
 use Rattle.vm_realm.proofs.KeepReplyLemmas.{map_reply}
 use Rattle.vm_realm.proofs.KeepServeLemmas.{asked_same}
 use Rattle.vm_realm.proofs.KeepOpenLemmas.{IsOutside, outside, none_along, told_id, live_session}
-use Rattle.vm_realm.proofs.KeepPlainLemmas.{IsPlainCall, IsAnswered, answered_sound, same_itself}
+use Rattle.vm_realm.proofs.KeepPlainLemmas.{IsPlainCall, answered_sound, same_itself}
 use Rattle.vm_realm.proofs.KeepUnmapLemmas.{same_session}
 
 -- ---- the call
@@ -65,7 +63,6 @@ map_call : (name : List ℕ) (t i : ℕ) (ro : Bool) → IsPlainCall (Mmap name 
 map_call name t i ro = record {
   may = refl;
   never = refl;
-  unsubscribed = refl;
   nothing = λ s. refl;
   none_made = λ s. refl;
   frames = λ s. refl;
@@ -75,7 +72,7 @@ map_call name t i ro = record {
   goes = λ s. refl;
 }
 
-map_open : (s : LocalState) (name : List ℕ) (t i : ℕ) (ro : Bool) → first_refusal (row_of s 0 0 (Mmap name t i ro)).refusals ≡ None → s.opened ≡ true
+pub map_open : (s : LocalState) (name : List ℕ) (t i : ℕ) (ro : Bool) → first_refusal (row_of s 0 0 (Mmap name t i ro)).refusals ≡ None → s.opened ≡ true
 unfolding mmap_row
 map_open s name t i ro pass = not-false s.opened (passes (mmap_row s 0 name t i ro).refusals pass 0)
 
@@ -134,6 +131,11 @@ denied_address line name t k ro id a b reply leads told =
     apart : (n l e : ℕ) → MappedAt n l ≡ Denied e → ⊥
     apart n l e is = cc
 
+-- each address at which the device maps goes over the wire
+pub low_map : (o : Option LiveRange) (d : DeviceState) (tag pages addr : ℕ) (region : RegionState) → AreLow d.region.ranges → range_of tag d.region.ranges ≡ o → Maps o d.region tag pages addr region → addr < 2 ^ 64
+low_map None d tag pages addr region low is maps = let inside = maps.0.inside in omega (arith, inside)
+low_map (Some r) d tag pages addr region low is maps = let inside = low tag r is in let same = maps.0 in omega (arith, inside, same)
+
 -- ---- the slice
 
 -- What is so of a slice whose frame is to be mapped.
@@ -150,7 +152,7 @@ pub record IsMapping (x : Slice) (v : Inner) (m : Posting) (d : DeviceState) (s 
   pub slice : IsSlice v.frames s x.job (earlier_of x) None (driver_state x) v.ahead
   pub pass : first_refusal (row_of v.ahead 0 0 (Mmap name t i ro)).refusals ≡ None
 
-mapped_as : (x x' : Slice) (v : Inner) (m : Posting) (d : DeviceState) (s : SessionState) (line : ℕ) (name : List ℕ) (t i : ℕ) (ro : Bool) (tag len : ℕ) (a : Answer) → MapsLow d → IsMapping x v m d s line name t i ro →
+mapped_as : (x x' : Slice) (v : Inner) (m : Posting) (d : DeviceState) (s : SessionState) (line : ℕ) (name : List ℕ) (t i : ℕ) (ro : Bool) (tag len : ℕ) (a : Answer) → AreLow d.region.ranges → IsMapping x v m d s line name t i ro →
     (buffer_of (queue_of v.ahead t) i).length ≡ len → MapsFrame d m.held tag len a →
     x' ≡ record x { out = Told (told_by m a); session = session_in a.device (id_ahead x.handle (Told (told_by m a))) } → GoesOnSoundly x' v
 mapped_as x x' v m d s line name t i ro tag len a low h long (inl denied) after =
@@ -187,7 +189,7 @@ mapped_as x x' v m d s line name t i ro tag len a low h long (inr (addr, region,
     subst (λ z. GoesOnSoundly z v) (sym same) (answered_sound x v m s s answer line call (map_call name t i ro)
     (λ b reply leads said. (
       map_memory line name t i ro (driver_state x) b reply leads,
-      map_address line name t i ro s.id addr len (driver_state x) b reply (low tag (pages_of len) addr region maps) leads said,
+      map_address line name t i ro s.id addr len (driver_state x) b reply (low_map (range_of tag d.region.ranges) d tag (pages_of len) addr region low refl maps) leads said,
     ))
     h.sound h.is h.under h.crosses h.who h.session h.id h.slice (record {
       reply = goes.0;
@@ -203,8 +205,8 @@ mapped_as x x' v m d s line name t i ro tag len a low h long (inr (addr, region,
     apart n l k is = cc
 
 map_by : (call : Call) (x x' : Slice) (v : Inner) (m : Posting) (c : Command) (d : DeviceState) (posted : IsPosted x m) → posted.call ≡ call → makes_mapping call ≡ true → IsSoundSlice x v →
-    (x.out ≡ Asked m) ⊎ (x.out ≡ Kept m) → m.request.asks ≡ Judged (Ok c) → IsDeviceOf x d → MapsLow d → IsServed m c d x x' → GoesOnSoundly x' v
-map_by (Mmap name t i ro) x x' v m c d posted call makes sound at asked device low served =
+    (x.out ≡ Asked m) ⊎ (x.out ≡ Kept m) → m.request.asks ≡ Judged (Ok c) → IsDeviceOf x d → IsServed m c d x x' → GoesOnSoundly x' v
+map_by (Mmap name t i ro) x x' v m c d posted call makes sound at asked device served =
     let r : LocalState = driver_state x in
     let is : IsOutside x v = outside x v m sound at in
     let crosses : crossing_from x.handle (Mmap name t i ro) ≡ Some posted.crossing = subst (λ k. crossing_from x.handle k ≡ Some posted.crossing) call posted.crosses in
@@ -228,7 +230,7 @@ map_by (Mmap name t i ro) x x' v m c d posted call makes sound at asked device l
     let len : ℕ = (buffer_of (queue_of v.ahead t) i).length in
     let found : MapsFound d m.held (Ok (frame_tag s.id frame.0, len)) does.0 =
     subst (λ o. MapsFound d m.held o does.0) (ap (λ o. frame_in o (buffer_offset t i)) there ∙ frame.1) does.1 in
-    mapped_as x x' v m d s posted.line name t i ro (frame_tag s.id frame.0) len does.0 low (record {
+    mapped_as x x' v m d s posted.line name t i ro (frame_tag s.id frame.0) len does.0 device.low (record {
       sound = sound;
       is = is;
       under = posted.underway ∙ ap (Underway posted.line) call;
@@ -241,7 +243,7 @@ map_by (Mmap name t i ro) x x' v m c d posted call makes sound at asked device l
       slice = slice;
       pass = pass;
     }) refl found does.2
-map_by call x x' v m c d posted is makes sound at asked device low served = absurd (false≢true makes)
+map_by call x x' v m c d posted is makes sound at asked device served = absurd (false≢true makes)
 
-pub map_keeps : MappingsKeepSlice
-map_keeps x x' v m c d posted makes sound at asked device low served whole = map_by posted.call x x' v m c d posted refl makes sound at asked device low served
+pub map_keeps : CallsKeepSlice makes_mapping
+map_keeps x x' v m c d posted makes sound at asked device waits served whole = map_by posted.call x x' v m c d posted refl makes sound at asked device served

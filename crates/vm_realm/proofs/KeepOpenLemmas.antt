@@ -1,8 +1,8 @@
 -- An open and a close that the device does keep a slice sound.
-use Rattle.std.proofs.Common.{◌≡◌, ◌⊎◌, inl, inr, ℕ, zero, suc, ◌<◌, ◌≤◌, ◌^◌, true, false, Bool, not, List, [], ◌∷◌, ◌++◌, All, length, map, get_or, set, Option, Some, None, IsSome, refl, sym, ap, ◌∙◌, subst, arith, lit<, if◌then◌else◌, true≢false, get_or-set_same}
-use Rattle.std.specs.List.{filter_map, flat_map}
+use Rattle.std.proofs.Common.{◌≡◌, ◌⊎◌, inl, inr, ℕ, zero, suc, ◌<◌, ◌^◌, true, false, Bool, not, List, [], ◌∷◌, ◌++◌, All, length, map, get_or, Option, Some, None, IsSome, refl, sym, ap, ◌∙◌, subst, arith, lit<, if◌then◌else◌, true≢false, get_or-set_same}
+use Rattle.std.specs.List.{filter_map}
 use Rattle.std.specs.Option.{option_map, option_to_list}
-use Rattle.std.specs.Prelude.{IfSome, Ok, is_some, take}
+use Rattle.std.specs.Prelude.{IfSome, Ok, take}
 use Rattle.std.proofs.lemmas.Bool.{false≢true, not-false}
 use Rattle.std.proofs.lemmas.Option.{none-some}
 use Rattle.std.proofs.lemmas.List.{length-map}
@@ -19,30 +19,25 @@ use Rattle.vm_wire.specs.Message.Ask.{Judged}
 use Rattle.vm_wire.specs.Wire.{response_bytes, response_of, ReadsBack}
 use Rattle.vm_wire.specs.declared.command.Command.{Command}
 use Rattle.vm_wire.specs.declared.command.Command.TheVariants.{OpenSession, CloseSession}
-use Rattle.vm_wire.specs.declared.response.Response.{Response}
 use Rattle.vm_wire.specs.declared.response.Response.TheVariants.{Refused as Denied, Opened, Closed}
 use Rattle.vm_wire.proofs.WireLemmas.{response_again}
 use Rattle.vm_local.specs.declared.call.Call.{Call}
 use Rattle.vm_local.specs.declared.call.Call.TheVariants.{OpenHandle, CloseHandle}
 use Rattle.vm_local.specs.declared.entry.Entry.{Entry}
 use Rattle.vm_local.specs.declared.entry.Entry.TheVariants.{Called}
-use Rattle.vm_local.specs.declared.reply.Reply.{Reply}
 use Rattle.vm_local.specs.declared.reply.Reply.TheVariants.{Refused, Done}
 use Rattle.vm_local.specs.State.{LocalState, opening_queue as local_opening}
 use Rattle.vm_local.specs.Calls.{opened_anew, closed}
 use Rattle.vm_local.specs.Log.{IsCall, called, after}
 use Rattle.vm_local.proofs.KeptLemmas.{some_same}
 use Rattle.vm_commute.specs.Commute.{is_open}
-use Rattle.vm_commute.proofs.ReachedLemmas.{reached_after}
 use Rattle.vm_home.specs.Moves.{memory_at, ComeBack}
 use Rattle.vm_home.specs.Reached.{IsReached}
-use Rattle.vm_log.specs.LegalLog.{state_of}
 use Rattle.vm_exchange.specs.declared.crossing.Crossing.{Crossing}
-use Rattle.vm_exchange.specs.Exchange.{crossing, from_open, sends, response_to}
-use Rattle.vm_exchange.specs.declared.way.Way.TheVariants.{Crosses, AnsweredHere}
-use Rattle.vm_exchange.proofs.FitLemmas.{crossed_open}
+use Rattle.vm_exchange.specs.Exchange.{crossing, sends}
+use Rattle.vm_exchange.specs.declared.way.Way.TheVariants.{AnsweredHere}
 use Rattle.vm_handle.specs.Answers.{session_from}
-use Rattle.vm_handle.specs.Handle.{HandleState, id_of, crossing_from}
+use Rattle.vm_handle.specs.Handle.{id_of, crossing_from}
 use Rattle.vm_handle.specs.declared.stage.Stage.TheVariants.{Underway}
 use Rattle.vm_handle.proofs.LogLemmas.{reached as log_reached}
 use Rattle.vm_session.specs.Buffers.{queued_memories}
@@ -51,29 +46,28 @@ use Rattle.vm_queue.specs.declared.queued.Queued.{Queued}
 use Rattle.vm_session.specs.declared.running.Running.{Running}
 use Rattle.vm_session.specs.State.{SessionQueue, SessionState, opening_session, opening_queue, queue_of as session_queue, is_quiet}
 use Rattle.vm_session.specs.declared.unsent.Unsent.{Unsent}
-use Rattle.vm_stands.specs.Flight.{stops_queues, LeadAll}
+use Rattle.vm_stands.specs.Flight.{LeadAll}
 use Rattle.vm_stands.specs.Laws.{Along}
-use Rattle.vm_stands.specs.Slice.{IsSlice, LeadWith, LeadAhead}
+use Rattle.vm_stands.specs.Slice.{IsSlice, LeadAhead}
 use Rattle.vm_stands.specs.Stands.{Stands, IsNextIf}
 use Rattle.vm_stands.proofs.AnswerLemmas.{nothing_back}
 use Rattle.vm_stands.proofs.ApartLemmas.{slice_closes}
 use Rattle.vm_stands.proofs.DoneLemmas.{bare_on}
 use Rattle.vm_stands.proofs.StopLemmas.{Quiet, quiet_is}
 use Rattle.vm_device.specs.Device.{DeviceState, session_of, without_session}
-use Rattle.vm_device.specs.Perform.{Answer, Performs, opened, closed as closed_session, is_busy, must_wait}
+use Rattle.vm_device.specs.Perform.{Answer, opened, closed as closed_session, is_busy, must_wait}
 use Rattle.vm_realm.specs.Inner.{Inner, driver_state, id_in, under_way, unsent_in}
 use Rattle.vm_realm.specs.Laws.{GoesOnSoundly, CallsKeepSlice, closes_handle}
 use Rattle.vm_realm.specs.Places.{told_state, stopped_by as stopped_many, queued_held, job_held}
-use Rattle.vm_realm.specs.Slice.{Slice, Out, id_told, id_ahead, session_in, earlier_of}
+use Rattle.vm_realm.specs.Slice.{Slice, id_told, id_ahead, session_in, earlier_of}
 use Rattle.vm_realm.specs.Slice.Out.{Asked, Kept, Told}
 use Rattle.vm_realm.specs.SliceSteps.{IsFirst, IsDeviceOf, IsServed, told_by}
-use Rattle.vm_realm.specs.Sound.{IsPosted, IsTold, NothingExecuted, IsOut, IsShut, IsSeated, spec_running, IsSoundSlice, IsWholeSlice}
+use Rattle.vm_realm.specs.Sound.{IsPosted, NothingExecuted, IsOut, IsShut, IsSeated, spec_running, IsSoundSlice, IsWholeSlice}
 use Rattle.vm_realm.specs.Users.{IsUsers, AreUsers}
 use Rattle.vm_realm.proofs.KeepShutLemmas.{shut_leads}
 use Rattle.vm_realm.proofs.KeepOutLemmas.{append_none, on_soundly}
 use Rattle.vm_realm.proofs.KeepOwnLemmas.{told_held}
-use Rattle.vm_realm.proofs.KeepServeLemmas.{state_model, asked_same, session_is, IsDone, done_sound}
-use Rattle.vm_realm.proofs.SessionLemmas.{open_has}
+use Rattle.vm_realm.proofs.KeepServeLemmas.{state_model, asked_same, IsDone, done_sound}
 
 -- ---- before a call is done
 

@@ -1,9 +1,8 @@
 -- A sound slice goes on being one where alone what lies between its session and its driver changes.
-use Rattle.std.proofs.Common.{◌≡◌, ℕ, true, false, Bool, List, [], ◌∷◌, ◌++◌, map, Option, Some, None, IsSome, refl, sym, ap, ◌∙◌, subst, append_assoc}
+use Rattle.std.proofs.Common.{◌≡◌, ℕ, true, false, Bool, List, [], ◌∷◌, ◌++◌, Option, Some, None, IsSome, refl, sym, ap, ◌∙◌, subst}
 use Rattle.std.specs.List.{filter_map}
 use Rattle.std.specs.Prelude.{IfSome, All, Contains}
 use Rattle.std.specs.Option.{option_map}
-use Rattle.vm_frame.specs.declared.mem.Held.{Held}
 use Rattle.vm_job.specs.Job.{JobParts}
 use Rattle.vm_wire.specs.Message.{Posting, Returning}
 use Rattle.vm_wire.specs.declared.delivery.Delivery.{Delivery}
@@ -22,8 +21,8 @@ use Rattle.vm_realm.specs.Places.{told_state, queued_held, job_held}
 use Rattle.vm_realm.specs.Slice.{Slice, Out, id_ahead}
 use Rattle.vm_realm.specs.Slice.Out.{Nowhere, Asked, Kept, Told, Astray}
 use Rattle.vm_realm.specs.SliceSteps.{holds_back}
-use Rattle.vm_realm.specs.Sound.{IsPosted, IsKept, IsBefore, IsTold, IsOut, IsSeated, HoldsFew, spec_running, stopped_last, queue_told, IsSoundSlice}
-use Rattle.vm_realm.specs.Users.{AreUsers, KeepsUsers}
+use Rattle.vm_realm.specs.Sound.{IsPosted, IsBefore, IsTold, IsOut, IsSeated, HoldsFew, spec_running, stopped_last, queue_told, IsSoundSlice}
+use Rattle.vm_realm.specs.Users.{AreUsers}
 
 pub append_none : {A : Type 0} (xs : List A) → xs ++ [] ≡ xs
 append_none [] = refl

@@ -1,11 +1,10 @@
 -- A call that the driver answers by itself keeps a slice sound.
-use Rattle.std.proofs.Common.{◌≡◌, ◌⊎◌, inl, inr, ℕ, ◌<◌, true, false, Bool, List, [], ◌∷◌, ◌++◌, map, get_or, Option, Some, None, refl, sym, ap, ◌∙◌, subst, arith}
+use Rattle.std.proofs.Common.{◌≡◌, ◌⊎◌, inl, inr, ℕ, true, false, Bool, List, [], ◌∷◌, ◌++◌, get_or, Option, Some, None, refl, sym, ap, ◌∙◌, subst, arith}
 use Rattle.std.specs.List.{filter_map}
-use Rattle.std.specs.Prelude.{IfSome, All, Contains}
+use Rattle.std.specs.Prelude.{IfSome, Contains}
 use Rattle.std.specs.Option.{option_map}
 use Rattle.vm_frame.specs.declared.mem.Held.{Held}
 use Rattle.vm_frame.specs.declared.mem.Mem.{Mem}
-use Rattle.vm_job.specs.Job.{JobParts}
 use Rattle.vm_lease.specs.declared.lease_out.LeaseOut.{LeaseOut}
 use Rattle.vm_wire.specs.Message.{Posting, Returning}
 use Rattle.vm_local.specs.declared.call.Call.{Call}
@@ -25,14 +24,13 @@ use Rattle.vm_handle.specs.Handle.{HandleState, Keeps, id_of}
 use Rattle.vm_handle.specs.declared.stage.Stage.{Stage}
 use Rattle.vm_handle.specs.declared.stage.Stage.TheVariants.{AtRest, Underway}
 use Rattle.vm_session.specs.State.{SessionState}
-use Rattle.vm_session.specs.declared.unsent.Unsent.{Unsent}
 use Rattle.vm_stands.specs.Flight.{LeadAll}
 use Rattle.vm_stands.specs.Slice.{IsSlice, LeadAhead}
 use Rattle.vm_stands.proofs.SliceLemmas.{slice_has_own_calls}
 use Rattle.vm_realm.specs.Inner.{Inner, driver_state, id_in, under_way, unsent_in}
 use Rattle.vm_realm.specs.Places.{queued_held, job_held}
-use Rattle.vm_realm.specs.Slice.{Slice, Out, id_ahead, earlier_of}
-use Rattle.vm_realm.specs.Slice.Out.{Nowhere, Asked, Kept, Told}
+use Rattle.vm_realm.specs.Slice.{Slice, id_ahead, earlier_of}
+use Rattle.vm_realm.specs.Slice.Out.{Nowhere, Asked, Told}
 use Rattle.vm_realm.specs.SliceSteps.{holds_back}
 use Rattle.vm_realm.specs.Sound.{IsShut, IsSeated, HoldsFew, spec_running, last_call_from, stopped_by, stopped_last, queue_told, IsStill, IsSoundSlice}
 use Rattle.vm_realm.specs.Users.{IsUsers, AreUsers}

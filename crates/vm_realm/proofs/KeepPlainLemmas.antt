@@ -1,33 +1,30 @@
 -- Calls that the device does in a session, and that move no memory, keep a slice sound.
-use Rattle.std.proofs.Common.{◌≡◌, ◌⊎◌, inl, inr, ℕ, zero, suc, ◌<◌, ◌^◌, true, false, Bool, not, List, [], ◌∷◌, ◌++◌, All, length, map, get_or, set, Option, Some, None, IsSome, refl, sym, ap, ◌∙◌, subst, arith, lit<, if◌then◌else◌, true≢false}
-use Rattle.std.specs.List.{filter_map, flat_map}
+use Rattle.std.proofs.Common.{◌≡◌, inl, inr, ℕ, suc, ◌<◌, ◌^◌, true, false, Bool, List, [], ◌∷◌, ◌++◌, length, get_or, Option, Some, None, IsSome, refl, sym, ap, ◌∙◌, subst, arith, lit<, if◌then◌else◌, true≢false}
+use Rattle.std.specs.List.{flat_map}
 use Rattle.std.specs.Option.{option_map, option_to_list}
-use Rattle.std.specs.Prelude.{IfSome, Result, Ok, Err, is_some, take}
+use Rattle.std.specs.Prelude.{Result, Ok, Err, take}
 use Rattle.std.proofs.lemmas.Bool.{false≢true}
 use Rattle.std.proofs.lemmas.Option.{none-some}
-use Rattle.std.proofs.lemmas.List.Elements.{All-nil, All-cons, All-head, All-tail, All-weaker}
+use Rattle.std.proofs.lemmas.List.Elements.{All-nil, All-weaker}
 use Rattle.std.proofs.lemmas.List.{get_or-set_same}
 use Rattle.v4l_const.specs.Errno.{errno_number}
 use Rattle.v4l_const.specs.declared.errno.Errno.{Errno}
 use Rattle.v4l_const.specs.declared.ioctl_code.IoctlCode.{IoctlCode}
-use Rattle.v4l_const.specs.declared.ioctl_code.IoctlCode.TheVariants.{QueryCap as QueryCapCode, EnumFmt as EnumFmtCode, GFmt as GFmtCode, TryFmt as TryFmtCode, SFmt as SFmtCode, EnumInput as EnumInputCode, GInput as GInputCode, SInput as SInputCode, QueryBuf as QueryBufCode, StreamOn as StreamOnCode}
+use Rattle.v4l_const.specs.declared.ioctl_code.IoctlCode.TheVariants.{QueryCap as QueryCapCode, EnumFmt as EnumFmtCode, GFmt as GFmtCode, TryFmt as TryFmtCode, SFmt as SFmtCode, EnumInput as EnumInputCode, GInput as GInputCode, SInput as SInputCode, QueryBuf as QueryBufCode, StreamOn as StreamOnCode, SubscribeEvent as SubscribeCode, UnsubscribeEvent as UnsubscribeCode}
 use Rattle.v4l_const.specs.Model.{queues as types_of}
 use Rattle.v4l_rules.specs.Formats.{with_set_format_at}
 use Rattle.v4l_rules.specs.Queues.{place_in}
 use Rattle.v4l_rules.specs.Refusals.{first_refusal}
 use Rattle.v4l_rules.proofs.SetLemmas.{set_keeps, formatted_keeps}
 use Rattle.vm_frame.specs.declared.mem.Held.{Held}
-use Rattle.vm_job.specs.Job.{JobParts}
 use Rattle.vm_queue.specs.Buffers.{memories}
 use Rattle.vm_wire.specs.Message.{Posting, Returning}
-use Rattle.vm_wire.specs.Message.Ask.{Judged}
 use Rattle.vm_wire.specs.Wire.{number_at, response_bytes}
-use Rattle.vm_wire.specs.declared.command.Command.{Command}
 use Rattle.vm_wire.specs.declared.command.Command.TheVariants.{Ioctl}
 use Rattle.vm_wire.specs.declared.response.Response.{Response}
 use Rattle.vm_wire.specs.declared.response.Response.TheVariants.{Refused as Denied, Opened, Answered}
 use Rattle.vm_local.specs.declared.call.Call.{Call}
-use Rattle.vm_local.specs.declared.call.Call.TheVariants.{QueryCap, EnumFmt, GFmt, TryFmt, SFmt, EnumInput, GInput, SInput, QueryBuf, StreamOn}
+use Rattle.vm_local.specs.declared.call.Call.TheVariants.{QueryCap, EnumFmt, GFmt, TryFmt, SFmt, EnumInput, GInput, SInput, QueryBuf, StreamOn, Subscribe, Unsubscribe}
 use Rattle.vm_local.specs.declared.entry.Entry.{Entry}
 use Rattle.vm_local.specs.declared.entry.Entry.TheVariants.{Called}
 use Rattle.vm_local.specs.declared.reply.Reply.{Reply}
@@ -36,7 +33,7 @@ use Rattle.vm_local.specs.State.{QueueState, LocalState, opening_queue as local_
 use Rattle.vm_local.specs.Queue.{adjusted_for as local_adjusted, started as local_started}
 use Rattle.vm_local.specs.Same.{address_in}
 use Rattle.vm_local.specs.Steps.{number_of}
-use Rattle.vm_local.specs.Calls.{row_of, querycap_row, enumfmt_row, gfmt_row, tryfmt_row, sfmt_row, enuminput_row, ginput_row, sinput_row, querybuf_row, streamon_row}
+use Rattle.vm_local.specs.Calls.{row_of, querycap_row, enumfmt_row, gfmt_row, tryfmt_row, sfmt_row, enuminput_row, ginput_row, sinput_row, querybuf_row, streamon_row, subscribe_row, unsubscribe_row}
 use Rattle.vm_local.specs.Log.{IsCall, row_for, called, after}
 use Rattle.vm_local.proofs.KeptLemmas.{some_same}
 use Rattle.vm_local.proofs.StepLemmas.{answered_by}
@@ -45,43 +42,41 @@ use Rattle.vm_commute.proofs.ReachedLemmas.{reached_after}
 use Rattle.vm_home.specs.Moves.{memory_at, is_stopping, stops, made_by, ComeBack, ComeWith}
 use Rattle.vm_home.specs.Reached.{IsReached}
 use Rattle.vm_exchange.specs.declared.crossing.Crossing.{Crossing}
-use Rattle.vm_exchange.specs.declared.way.Way.{Way}
 use Rattle.vm_exchange.specs.declared.way.Way.TheVariants.{Crosses, AnsweredHere}
 use Rattle.vm_exchange.specs.Exchange.{way_of, from_open, asks, crossing, crossing_of, response_to}
 use Rattle.vm_exchange.specs.Range.{AreWords}
-use Rattle.vm_exchange.proofs.OutcomeLemmas.{Outcome, outcome}
+use Rattle.vm_exchange.proofs.OutcomeLemmas.{outcome}
 use Rattle.vm_handle.specs.Answers.{session_from}
 use Rattle.vm_handle.specs.Handle.{HandleState, id_of, crossing_from}
 use Rattle.vm_handle.specs.declared.stage.Stage.TheVariants.{Underway}
 use Rattle.vm_session.specs.Buffers.{queued_memories, started}
-use Rattle.vm_session.specs.Rows.{code_at, querycap_row as s_querycap, enumfmt_row as s_enumfmt, gfmt_row as s_gfmt, tryfmt_row as s_tryfmt, sfmt_row as s_sfmt, enuminput_row as s_enuminput, ginput_row as s_ginput, sinput_row as s_sinput, querybuf_row as s_querybuf, streamon_row as s_streamon, IoctlRow, IoctlAnswer, ioctl_row, refused_or, refusal_of, outcome_of, ioctl_outcome, held_after}
+use Rattle.vm_session.specs.Rows.{code_at, querycap_row as s_querycap, enumfmt_row as s_enumfmt, gfmt_row as s_gfmt, tryfmt_row as s_tryfmt, sfmt_row as s_sfmt, enuminput_row as s_enuminput, ginput_row as s_ginput, sinput_row as s_sinput, querybuf_row as s_querybuf, streamon_row as s_streamon, subscribe_row as s_subscribe, unsubscribe_row as s_unsubscribe, IoctlRow, IoctlAnswer, ioctl_row, refused_or, refusal_of, ioctl_outcome, held_after}
 use Rattle.vm_session.specs.Sound.{IsSound as IsSoundSession}
 use Rattle.vm_session.specs.State.{SessionQueue, SessionState, opening_queue, queue_kind, queue_of, adjusted_for}
 use Rattle.vm_session.specs.declared.running.Running.{Running}
 use Rattle.vm_session.specs.declared.unsent.Unsent.{Unsent}
-use Rattle.vm_stands.specs.Flight.{stops_queues, LeadAll}
-use Rattle.vm_stands.specs.Laws.{frames_by, Along, is_subscription}
-use Rattle.vm_stands.specs.Slice.{IsSlice, LeadWith, LeadAhead, Goes}
+use Rattle.vm_stands.specs.Laws.{frames_by, Along}
+use Rattle.vm_stands.specs.Slice.{IsSlice, LeadWith, Goes}
 use Rattle.vm_stands.proofs.AnswerLemmas.{nothing_back}
 use Rattle.vm_stands.proofs.FormatLemmas.{set_long}
 use Rattle.vm_stands.proofs.SliceCallLemmas.{slice_answers}
 use Rattle.vm_device.specs.Brought.{comes_with}
 use Rattle.vm_device.specs.Device.{DeviceState, session_of, with_session}
 use Rattle.vm_device.specs.Perform.{Answer, called as called_session, called_with, in_session, refused}
-use Rattle.vm_realm.specs.Inner.{Inner, driver_state, id_in, under_way, unsent_in}
+use Rattle.vm_realm.specs.Inner.{Inner, driver_state, unsent_in}
 use Rattle.vm_realm.specs.Laws.{GoesOnSoundly, CallsKeepSlice, is_plain}
 use Rattle.vm_realm.specs.Places.{told_state, told_state_if, stopped_by as stopped_many, queued_held, job_held}
-use Rattle.vm_realm.specs.Slice.{Slice, Out, id_ahead, session_in, earlier_of}
-use Rattle.vm_realm.specs.Slice.Out.{Asked, Kept, Told}
-use Rattle.vm_realm.specs.SliceSteps.{IsFirst, IsDeviceOf, IsServed, told_by}
-use Rattle.vm_realm.specs.Sound.{IsPosted, IsBefore, IsTold, IsSeated, spec_running, IsSoundSlice, IsWholeSlice}
+use Rattle.vm_realm.specs.Slice.{Slice, id_ahead, session_in, earlier_of}
+use Rattle.vm_realm.specs.Slice.Out.{Told}
+use Rattle.vm_realm.specs.SliceSteps.{IsFirst, IsServed, told_by}
+use Rattle.vm_realm.specs.Sound.{IsBefore, IsSeated, spec_running, IsSoundSlice, IsWholeSlice}
 use Rattle.vm_realm.specs.Users.{IsUsers, AreUsers}
 use Rattle.vm_realm.proofs.KeepStateLemmas.{IsAlike, alike_back, lead_alike, held_alike}
 use Rattle.vm_realm.proofs.KeepOutLemmas.{append_none, on_soundly}
 use Rattle.vm_realm.proofs.KeepOwnLemmas.{told_held}
 use Rattle.vm_realm.proofs.KeepFrameLemmas.{flat_set, take_none}
 use Rattle.vm_realm.proofs.KeepReplyLemmas.{users_like, like_call}
-use Rattle.vm_realm.proofs.KeepServeLemmas.{asked_same, IsDone, done_sound}
+use Rattle.vm_realm.proofs.KeepServeLemmas.{asked_same, done_sound}
 use Rattle.vm_realm.proofs.KeepOpenLemmas.{IsOutside, outside, none_along, told_id, live_session, some_within}
 
 -- ---- what the session does
@@ -97,6 +92,8 @@ is_plain_code GInputCode = true
 is_plain_code SInputCode = true
 is_plain_code QueryBufCode = true
 is_plain_code StreamOnCode = true
+is_plain_code SubscribeCode = true
+is_plain_code UnsubscribeCode = true
 is_plain_code code = false
 
 -- What it leaves of the session: its job, its messages and its memories.
@@ -117,7 +114,7 @@ flat_same f d (x ∷ xs) (y ∷ ys) long each =
     (λ j. each 0 j ++ flat_same f d xs ys (omega (arith, long)) (λ p. each (suc p)) j)
 
 row_same : (s : SessionState) (code : IoctlCode) (p : List ℕ) → is_plain_code code ≡ true → IsSame s (ioctl_row s code p []).next × ((ioctl_row s code p []).back ≡ [])
-unfolding is_plain_code s_querycap s_enumfmt s_gfmt s_tryfmt s_sfmt s_enuminput s_ginput s_sinput s_querybuf s_streamon
+unfolding is_plain_code s_querycap s_enumfmt s_gfmt s_tryfmt s_sfmt s_enuminput s_ginput s_sinput s_querybuf s_streamon s_subscribe s_unsubscribe
 row_same s QueryCapCode p plain = (same_itself s, refl)
 row_same s EnumFmtCode p plain = (same_itself s, refl)
 row_same s GFmtCode p plain = (same_itself s, refl)
@@ -147,6 +144,8 @@ row_same s StreamOnCode p plain = (
   },
   refl,
 )
+row_same s SubscribeCode p plain = (same_itself s, refl)
+row_same s UnsubscribeCode p plain = (same_itself s, refl)
 row_same s code p plain = absurd (false≢true plain)
 
 pub ok_same : {A B : Type 0} (a b : A) → ◌≡◌ {A = Result A B} (Ok a) (Ok b) → a ≡ b
@@ -179,6 +178,8 @@ plain_comes s GInputCode p wire held plain = refl
 plain_comes s SInputCode p wire held plain = refl
 plain_comes s QueryBufCode p wire held plain = refl
 plain_comes s StreamOnCode p wire held plain = refl
+plain_comes s SubscribeCode p wire held plain = refl
+plain_comes s UnsubscribeCode p wire held plain = refl
 plain_comes s code p wire held plain = absurd (false≢true plain)
 
 plain_held : (code : IoctlCode) (held back : List Held) → is_plain_code code ≡ true → held_after code held back ≡ held ++ back
@@ -193,6 +194,8 @@ plain_held GInputCode held back plain = refl
 plain_held SInputCode held back plain = refl
 plain_held QueryBufCode held back plain = refl
 plain_held StreamOnCode held back plain = refl
+plain_held SubscribeCode held back plain = refl
+plain_held UnsubscribeCode held back plain = refl
 plain_held code held back plain = absurd (false≢true plain)
 
 -- ---- the way of the call
@@ -235,6 +238,8 @@ plain_way id r GInput c plain is = plain_from id r GInput GInputCode _ c refl re
 plain_way id r (SInput i) c plain is = plain_from id r (SInput i) SInputCode _ c refl refl is
 plain_way id r (QueryBuf t i) c plain is = plain_from id r (QueryBuf t i) QueryBufCode _ c refl refl is
 plain_way id r (StreamOn t) c plain is = plain_from id r (StreamOn t) StreamOnCode _ c refl refl is
+plain_way id r (Subscribe e) c plain is = plain_from id r (Subscribe e) SubscribeCode _ c refl refl is
+plain_way id r (Unsubscribe e) c plain is = plain_from id r (Unsubscribe e) UnsubscribeCode _ c refl refl is
 plain_way id r call c plain is = absurd (false≢true plain)
 
 -- ---- the call in the handle
@@ -243,7 +248,6 @@ plain_way id r call c plain is = absurd (false≢true plain)
 pub record IsPlainCall (call : Call) : Type 0 where
   pub may : may_cross call ≡ true
   pub never : is_stopping call ≡ false
-  pub unsubscribed : is_subscription call ≡ false
   pub nothing : (s : LocalState) → stops s call ≡ []
   pub none_made : (s : LocalState) → made_by s call ≡ []
   pub frames : (s : LocalState) → frames_by s call ≡ []
@@ -253,20 +257,22 @@ pub record IsPlainCall (call : Call) : Type 0 where
   pub goes : (s : LocalState) → Along s call []
 
 plain_call : (call : Call) → is_plain call ≡ true → IsPlainCall call
-plain_call QueryCap plain = record { may = refl; never = refl; unsubscribed = refl; nothing = λ s. refl; none_made = λ s. refl; frames = λ s. refl; first = λ h. tt; session = λ o r z. refl; along = λ s held is. is; goes = λ s. refl }
-plain_call (EnumFmt t i) plain = record { may = refl; never = refl; unsubscribed = refl; nothing = λ s. refl; none_made = λ s. refl; frames = λ s. refl; first = λ h. tt; session = λ o r z. refl; along = λ s held is. is; goes = λ s. refl }
-plain_call (GFmt t) plain = record { may = refl; never = refl; unsubscribed = refl; nothing = λ s. refl; none_made = λ s. refl; frames = λ s. refl; first = λ h. tt; session = λ o r z. refl; along = λ s held is. is; goes = λ s. refl }
-plain_call (TryFmt t f w h) plain = record { may = refl; never = refl; unsubscribed = refl; nothing = λ s. refl; none_made = λ s. refl; frames = λ s. refl; first = λ h. tt; session = λ o r z. refl; along = λ s held is. is; goes = λ s. refl }
-plain_call (SFmt t f w h) plain = record { may = refl; never = refl; unsubscribed = refl; nothing = λ s. refl; none_made = λ s. refl; frames = λ s. refl; first = λ h. tt; session = λ o r z. refl; along = λ s held is. is; goes = λ s. refl }
-plain_call (EnumInput i) plain = record { may = refl; never = refl; unsubscribed = refl; nothing = λ s. refl; none_made = λ s. refl; frames = λ s. refl; first = λ h. tt; session = λ o r z. refl; along = λ s held is. is; goes = λ s. refl }
-plain_call GInput plain = record { may = refl; never = refl; unsubscribed = refl; nothing = λ s. refl; none_made = λ s. refl; frames = λ s. refl; first = λ h. tt; session = λ o r z. refl; along = λ s held is. is; goes = λ s. refl }
-plain_call (SInput i) plain = record { may = refl; never = refl; unsubscribed = refl; nothing = λ s. refl; none_made = λ s. refl; frames = λ s. refl; first = λ h. tt; session = λ o r z. refl; along = λ s held is. is; goes = λ s. refl }
-plain_call (QueryBuf t i) plain = record { may = refl; never = refl; unsubscribed = refl; nothing = λ s. refl; none_made = λ s. refl; frames = λ s. refl; first = λ h. tt; session = λ o r z. refl; along = λ s held is. is; goes = λ s. refl }
-plain_call (StreamOn t) plain = record { may = refl; never = refl; unsubscribed = refl; nothing = λ s. refl; none_made = λ s. refl; frames = λ s. refl; first = λ h. tt; session = λ o r z. refl; along = λ s held is. is; goes = λ s. refl }
+plain_call QueryCap plain = record { may = refl; never = refl; nothing = λ s. refl; none_made = λ s. refl; frames = λ s. refl; first = λ h. tt; session = λ o r z. refl; along = λ s held is. is; goes = λ s. refl }
+plain_call (EnumFmt t i) plain = record { may = refl; never = refl; nothing = λ s. refl; none_made = λ s. refl; frames = λ s. refl; first = λ h. tt; session = λ o r z. refl; along = λ s held is. is; goes = λ s. refl }
+plain_call (GFmt t) plain = record { may = refl; never = refl; nothing = λ s. refl; none_made = λ s. refl; frames = λ s. refl; first = λ h. tt; session = λ o r z. refl; along = λ s held is. is; goes = λ s. refl }
+plain_call (TryFmt t f w h) plain = record { may = refl; never = refl; nothing = λ s. refl; none_made = λ s. refl; frames = λ s. refl; first = λ h. tt; session = λ o r z. refl; along = λ s held is. is; goes = λ s. refl }
+plain_call (SFmt t f w h) plain = record { may = refl; never = refl; nothing = λ s. refl; none_made = λ s. refl; frames = λ s. refl; first = λ h. tt; session = λ o r z. refl; along = λ s held is. is; goes = λ s. refl }
+plain_call (EnumInput i) plain = record { may = refl; never = refl; nothing = λ s. refl; none_made = λ s. refl; frames = λ s. refl; first = λ h. tt; session = λ o r z. refl; along = λ s held is. is; goes = λ s. refl }
+plain_call GInput plain = record { may = refl; never = refl; nothing = λ s. refl; none_made = λ s. refl; frames = λ s. refl; first = λ h. tt; session = λ o r z. refl; along = λ s held is. is; goes = λ s. refl }
+plain_call (SInput i) plain = record { may = refl; never = refl; nothing = λ s. refl; none_made = λ s. refl; frames = λ s. refl; first = λ h. tt; session = λ o r z. refl; along = λ s held is. is; goes = λ s. refl }
+plain_call (QueryBuf t i) plain = record { may = refl; never = refl; nothing = λ s. refl; none_made = λ s. refl; frames = λ s. refl; first = λ h. tt; session = λ o r z. refl; along = λ s held is. is; goes = λ s. refl }
+plain_call (StreamOn t) plain = record { may = refl; never = refl; nothing = λ s. refl; none_made = λ s. refl; frames = λ s. refl; first = λ h. tt; session = λ o r z. refl; along = λ s held is. is; goes = λ s. refl }
+plain_call (Subscribe e) plain = record { may = refl; never = refl; nothing = λ s. refl; none_made = λ s. refl; frames = λ s. refl; first = λ h. tt; session = λ o r z. refl; along = λ s held is. is; goes = λ s. refl }
+plain_call (Unsubscribe e) plain = record { may = refl; never = refl; nothing = λ s. refl; none_made = λ s. refl; frames = λ s. refl; first = λ h. tt; session = λ o r z. refl; along = λ s held is. is; goes = λ s. refl }
 plain_call call plain = absurd (false≢true plain)
 
 plain_next : (s : LocalState) (line addr : ℕ) (call : Call) → is_plain call ≡ true → (u i : ℕ) → memory_at (row_of s line addr call).next u i ≡ memory_at s u i
-unfolding querycap_row enumfmt_row gfmt_row tryfmt_row sfmt_row enuminput_row ginput_row sinput_row querybuf_row streamon_row
+unfolding querycap_row enumfmt_row gfmt_row tryfmt_row sfmt_row enuminput_row ginput_row sinput_row querybuf_row streamon_row subscribe_row unsubscribe_row
 plain_next s line addr QueryCap plain u i = refl
 plain_next s line addr (EnumFmt t k) plain u i = refl
 plain_next s line addr (GFmt t) plain u i = refl
@@ -279,6 +285,8 @@ plain_next s line addr (SInput k) plain u i = refl
 plain_next s line addr (QueryBuf t k) plain u i = refl
 plain_next s line addr (StreamOn t) plain u i =
     set_keeps local_opening (λ (q : QueueState). number_of (buffer_of q i)) s.queues (place_in (types_of s.model) t) (local_started (local_queue s t)) refl (place_in (types_of s.model) u)
+plain_next s line addr (Subscribe e) plain u i = refl
+plain_next s line addr (Unsubscribe e) plain u i = refl
 plain_next s line addr call plain u i = absurd (false≢true plain)
 
 plain_memory : (s t : LocalState) (line : ℕ) (call : Call) (reply : Reply) → is_plain call ≡ true → IsCall s line call reply t → (u i : ℕ) → memory_at t u i ≡ memory_at s u i
@@ -290,7 +298,7 @@ plain_memory s t line call reply plain leads u i =
     ]
 
 plain_row : (s : LocalState) (line addr : ℕ) (call : Call) → is_plain call ≡ true → address_in (row_of s line addr call).reply ≡ 0
-unfolding querycap_row enumfmt_row gfmt_row tryfmt_row sfmt_row enuminput_row ginput_row sinput_row querybuf_row streamon_row
+unfolding querycap_row enumfmt_row gfmt_row tryfmt_row sfmt_row enuminput_row ginput_row sinput_row querybuf_row streamon_row subscribe_row unsubscribe_row
 plain_row s line addr QueryCap plain = refl
 plain_row s line addr (EnumFmt t i) plain = refl
 plain_row s line addr (GFmt t) plain = refl
@@ -301,6 +309,8 @@ plain_row s line addr GInput plain = refl
 plain_row s line addr (SInput i) plain = refl
 plain_row s line addr (QueryBuf t i) plain = refl
 plain_row s line addr (StreamOn t) plain = refl
+plain_row s line addr (Subscribe e) plain = refl
+plain_row s line addr (Unsubscribe e) plain = refl
 plain_row s line addr call plain = absurd (false≢true plain)
 
 plain_address : (s t : LocalState) (line : ℕ) (call : Call) (reply : Reply) → is_plain call ≡ true → IsCall s line call reply t → address_in reply ≡ 0
@@ -397,7 +407,7 @@ plain_served (Err errno) x x' v m d s code payload line call memory is_outcome p
     let same : x' ≡ record x { out = Told (told_by m answer); session = Some s } = after ∙ ap (λ k. record x { out = Told (told_by m answer); session = k }) (ap (session_in d) told ∙ there) in
     let goes : Goes v.frames s x.job (earlier_of x) line call (driver_state x) v.ahead (Err errno) =
     subst (Goes v.frames s x.job (earlier_of x) line call (driver_state x) v.ahead) is_outcome
-    (slice_answers v.frames s x.job (earlier_of x) line call memory [] code payload None (driver_state x) v.ahead slice p.may p.never p.unsubscribed words (p.goes (driver_state x)) way
+    (slice_answers v.frames s x.job (earlier_of x) line call memory [] code payload None (driver_state x) v.ahead slice p.may p.never words (p.goes (driver_state x)) way
     (λ a is_ok. absurd (not_ok {A = IoctlAnswer} errno a (sym is_outcome ∙ is_ok)))) in
     subst (λ z. GoesOnSoundly z v) (sym same) (answered_sound x v m s s answer line call p (λ b reply leads told. plain_leaves line call (driver_state x) plain b reply leads) sound is under crosses who session id slice (record {
       reply = goes.0;
@@ -422,7 +432,7 @@ plain_served (Ok a) x x' v m d s code payload line call memory is_outcome plain 
     let keeps : IsSame s a.next × (a.back ≡ []) = plain_same memory s code payload a plain_code is_outcome in
     let goes : Goes v.frames s x.job (earlier_of x) line call (driver_state x) v.ahead (Ok a) =
     subst (Goes v.frames s x.job (earlier_of x) line call (driver_state x) v.ahead) is_outcome
-    (slice_answers v.frames s x.job (earlier_of x) line call memory [] code payload None (driver_state x) v.ahead slice p.may p.never p.unsubscribed words (p.goes (driver_state x)) way
+    (slice_answers v.frames s x.job (earlier_of x) line call memory [] code payload None (driver_state x) v.ahead slice p.may p.never words (p.goes (driver_state x)) way
     (λ b is_ok. subst (λ (z : IoctlAnswer). IsSoundSession z.next) (ok_same {A = IoctlAnswer} a b (sym is_outcome ∙ is_ok)) own)) in
     subst (λ z. GoesOnSoundly z v) (sym same) (answered_sound x v m s a.next answer line call p (λ b reply leads told. plain_leaves line call (driver_state x) plain b reply leads) sound is under crosses who session id slice (record {
       reply = goes.0;

@@ -1,5 +1,5 @@
 -- A reply is told by its answer, and what a call that crosses does to users' memories.
-use Rattle.std.proofs.Common.{◌≡◌, ◌⊎◌, inl, inr, ℕ, ◌<◌, ◌≤◌, true, false, Bool, not, List, [], ◌∷◌, ◌++◌, length, get_or, Option, Some, None, refl, sym, ap, ◌∙◌, subst, arith, true≢false}
+use Rattle.std.proofs.Common.{◌≡◌, inl, inr, ℕ, ◌<◌, ◌≤◌, true, false, Bool, not, List, [], length, Some, refl, sym, ap, ◌∙◌, subst, arith, true≢false}
 use Rattle.std.specs.Prelude.{Contains}
 use Rattle.std.proofs.lemmas.Bool.{false≢true}
 use Rattle.std.proofs.lemmas.List.{get_or_append_left}
@@ -18,15 +18,14 @@ use Rattle.vm_local.specs.declared.bound.Bound.{Bound}
 use Rattle.vm_local.specs.declared.bound.BoundKind.TheVariants.{Mapping, User}
 use Rattle.vm_local.specs.declared.call.Call.{Call}
 use Rattle.vm_local.specs.declared.call.Call.TheVariants.{OpenHandle, CloseHandle, QueryCap, EnumFmt, GFmt, TryFmt, SFmt, EnumInput, GInput, SInput, ReqBufs, QueryBuf, UAlloc, QBuf, StreamOn, StreamOff, DqBuf, Mmap, Munmap, Peek, Hash, Poke, Fill, Subscribe, Unsubscribe, DqEvent}
-use Rattle.vm_local.specs.declared.entry.Entry.TheVariants.{Called}
 use Rattle.vm_local.specs.declared.reply.Reply.{Reply}
-use Rattle.vm_local.specs.declared.reply.Reply.TheVariants.{Refused, Done, Mapped}
+use Rattle.vm_local.specs.declared.reply.Reply.TheVariants.{Refused, Mapped}
 use Rattle.vm_local.specs.State.{LocalState, queue_of, buffer_of}
 use Rattle.vm_local.specs.Live.{IsMade}
 use Rattle.vm_local.specs.Memory.{bytes_of, without_name}
 use Rattle.vm_local.specs.Queue.{with_buffers}
 use Rattle.vm_local.specs.Same.{address_in}
-use Rattle.vm_local.specs.Calls.{Row, row_of, querycap_row, enumfmt_row, gfmt_row, tryfmt_row, sfmt_row, enuminput_row, ginput_row, sinput_row, reqbufs_row, querybuf_row, ualloc_row, qbuf_row, streamon_row, streamoff_row, dqbuf_row, mmap_row, munmap_row, read_row, hash_row, write_row, fill_row, subscribe_row, unsubscribe_row, dqevent_row}
+use Rattle.vm_local.specs.Calls.{row_of, querycap_row, enumfmt_row, gfmt_row, tryfmt_row, sfmt_row, enuminput_row, ginput_row, sinput_row, reqbufs_row, querybuf_row, ualloc_row, qbuf_row, streamon_row, streamoff_row, dqbuf_row, mmap_row, munmap_row, read_row, hash_row, write_row, fill_row, subscribe_row, unsubscribe_row, dqevent_row}
 use Rattle.vm_local.specs.Log.{IsCall, row_for, called}
 use Rattle.vm_local.proofs.KeptLemmas.{some_same}
 use Rattle.vm_local.proofs.StepLemmas.{answered_by}
@@ -35,8 +34,8 @@ use Rattle.vm_home.specs.Moves.{is_refusal}
 use Rattle.vm_home.specs.Reached.{IsReached}
 use Rattle.vm_home.proofs.FactLemmas.{Facts, facts_of}
 use Rattle.vm_exchange.specs.Exchange.{response_to, IsAnswer}
-use Rattle.vm_exchange.proofs.OutcomeLemmas.{Outcome, outcome}
-use Rattle.vm_realm.specs.Users.{IsUsers}
+use Rattle.vm_exchange.proofs.OutcomeLemmas.{outcome}
+use Rattle.vm_realm.specs.Users.{CanHold, IsUsers}
 
 -- ---- one answer, one reply
 
@@ -65,7 +64,7 @@ mapped_same : (a b l m : ℕ) → MappedAt a l ≡ MappedAt b m → a ≡ b
 mapped_same a b l m is = cc
 
 -- only a refusal is told as one
-never_denied : (id : ℕ) (s : LocalState) (call : Call) (reply : Reply) (n : ℕ) → is_refusal reply ≡ false → response_to id s call reply ≡ Denied n → ⊥
+pub never_denied : (id : ℕ) (s : LocalState) (call : Call) (reply : Reply) (n : ℕ) → is_refusal reply ≡ false → response_to id s call reply ≡ Denied n → ⊥
 never_denied id s call (Refused e) n plain told = true≢false plain
 never_denied id s (OpenHandle nonblock) reply n plain told = cc
 never_denied id s CloseHandle reply n plain told = cc
@@ -182,19 +181,25 @@ IsUserLike s t = (b : Bound) (line off : ℕ) → Contains t.bound b → b.kind 
     Contains s.bound b × (b.memory < length s.memories → length (bytes_of t b.memory) ≡ length (bytes_of s b.memory))
 
 pub users_like : (s t : LocalState) (m : ℕ) (mem : Mem) → IsReached s → IsUserLike s t → IsUsers s m mem → IsUsers t m mem
-users_like s t m mem reached like users = λ b line off there is kind.
-    let old : Contains s.bound b × (b.memory < length s.memories → length (bytes_of t b.memory) ≡ length (bytes_of s b.memory)) = like b line off there kind in
-    let f : Facts s = facts_of s reached in
-    let made : b.memory < length s.memories = All-contains (λ (z : Bound). IsMade s z.memory) s.bound b f.sound.backed.1 old.0 in
-    users b line off old.0 is kind ∙ ap (λ n. mem_rest (OfUser (user_memory line n off)))
-    (ap (λ k. length (bytes_of s k)) (sym is) ∙ (sym (old.1 made) ∙ ap (λ k. length (bytes_of t k)) is))
+users_like s t m mem reached like users = record {
+  pages = λ b line off there is kind.
+      let old : Contains s.bound b × (b.memory < length s.memories → length (bytes_of t b.memory) ≡ length (bytes_of s b.memory)) = like b line off there kind in
+      let f : Facts s = facts_of s reached in
+      let made : b.memory < length s.memories = All-contains (λ (z : Bound). IsMade s z.memory) s.bound b f.sound.backed.1 old.0 in
+      users.pages b line off old.0 is kind ∙ ap (λ n. mem_rest (OfUser (user_memory line n off)))
+      (ap (λ k. length (bytes_of s k)) (sym is) ∙ (sym (old.1 made) ∙ ap (λ k. length (bytes_of t k)) is));
+  holds = users.holds;
+}
 
 -- a number that no name has is that of no user's memory
-pub users_none : (s : LocalState) (m : ℕ) (mem : Mem) → IsReached s → length s.memories ≤ m → IsUsers s m mem
-users_none s m mem reached past = λ b line off there is kind.
-    let f : Facts s = facts_of s reached in
-    let made : b.memory < length s.memories = All-contains (λ (z : Bound). IsMade s z.memory) s.bound b f.sound.backed.1 there in
-    absurd (omega (arith, made, is, past))
+pub users_none : (s : LocalState) (m : ℕ) (mem : Mem) → IsReached s → length s.memories ≤ m → CanHold mem → IsUsers s m mem
+users_none s m mem reached past holds = record {
+  pages = λ b line off there is kind.
+      let f : Facts s = facts_of s reached in
+      let made : b.memory < length s.memories = All-contains (λ (z : Bound). IsMade s z.memory) s.bound b f.sound.backed.1 there in
+      absurd (omega (arith, made, is, past));
+  holds = holds;
+}
 
 old_name : (bound : List Bound) (name : List ℕ) (b : Bound) → Contains (without_name bound name) b → Contains bound b
 old_name bound name b there = All-contains (Contains bound) (without_name bound name) b (All-filter _ (Contains bound) bound (All-contains_itself bound)) there

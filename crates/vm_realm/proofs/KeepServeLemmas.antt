@@ -1,19 +1,16 @@
 -- A call that has to wait in the device, and what is so of a slice whose call was done there.
-use Rattle.std.proofs.Common.{◌≡◌, ◌⊎◌, inl, inr, ℕ, ◌<◌, ◌^◌, true, false, Bool, not, ◌&&◌, List, [], ◌∷◌, ◌++◌, All, Option, Some, None, IsSome, refl, sym, ap, ◌∙◌, subst, if◌then◌else◌, true≢false}
+use Rattle.std.proofs.Common.{◌≡◌, ℕ, true, false, Bool, ◌&&◌, List, [], ◌∷◌, ◌++◌, All, Option, Some, None, IsSome, refl, sym, ap, ◌∙◌, subst, if◌then◌else◌, true≢false}
 use Rattle.std.specs.List.{filter_map}
-use Rattle.std.specs.Option.{option_map, option_and_then}
+use Rattle.std.specs.Option.{option_map}
 use Rattle.std.specs.Prelude.{IfSome, Contains, Ok, is_some, take}
 use Rattle.std.proofs.lemmas.Bool.{false≢true, and_parts}
 use Rattle.std.proofs.lemmas.Option.{none-some}
 use Rattle.v4l_const.specs.declared.ioctl_code.IoctlCode.{IoctlCode}
-use Rattle.v4l_const.specs.declared.model.Model.{Model}
 use Rattle.v4l_rules.specs.Refusals.{first_refusal}
-use Rattle.vm_frame.specs.declared.mem.Held.{Held}
-use Rattle.vm_job.specs.Job.{JobParts}
 use Rattle.vm_wire.specs.Message.{Posting, Returning}
 use Rattle.vm_wire.specs.Message.Ask.{Judged}
 use Rattle.vm_wire.specs.declared.command.Command.{Command}
-use Rattle.vm_wire.specs.declared.command.Command.TheVariants.{OpenSession, CloseSession, Ioctl}
+use Rattle.vm_wire.specs.declared.command.Command.TheVariants.{OpenSession}
 use Rattle.vm_local.specs.declared.call.Call.{Call}
 use Rattle.vm_local.specs.declared.call.Call.TheVariants.{OpenHandle, CloseHandle, QueryCap, EnumFmt, GFmt, TryFmt, SFmt, EnumInput, GInput, SInput, ReqBufs, QueryBuf, UAlloc, QBuf, StreamOn, StreamOff, DqBuf, Mmap, Munmap, Peek, Hash, Poke, Fill, Subscribe, Unsubscribe, DqEvent}
 use Rattle.vm_local.specs.declared.entry.Entry.{Entry}
@@ -24,30 +21,27 @@ use Rattle.vm_local.specs.Log.{IsLegal, after, replay, replay_from}
 use Rattle.vm_local.proofs.KeptLemmas.{some_same}
 use Rattle.vm_commute.proofs.EventsLemmas.{by_first}
 use Rattle.vm_home.specs.Moves.{is_stopping}
-use Rattle.vm_home.specs.Reached.{IsReached}
 use Rattle.vm_log.specs.LegalLog.{LogState, state_of}
 use Rattle.vm_exchange.specs.declared.crossing.Crossing.{Crossing}
-use Rattle.vm_exchange.specs.declared.way.Way.{Way}
 use Rattle.vm_exchange.specs.declared.way.Way.TheVariants.{Crosses, AnsweredHere}
-use Rattle.vm_exchange.specs.Exchange.{way_of, crossing, crossing_of, unless_by, once_answered, qbuf_crossing}
+use Rattle.vm_exchange.specs.Exchange.{crossing, crossing_of, qbuf_crossing}
 use Rattle.vm_exchange.proofs.FitLemmas.{crossed_open, crossed_unrefused}
-use Rattle.vm_handle.specs.Handle.{HandleState, id_of, crossing_from}
+use Rattle.vm_handle.specs.Handle.{id_of}
 use Rattle.vm_handle.proofs.StageLemmas.{dqbuf_stays}
 use Rattle.vm_session.specs.Rows.{puts_back, stops as stops_session}
 use Rattle.vm_session.specs.State.{SessionState}
 use Rattle.vm_session.specs.declared.unsent.Unsent.{Unsent}
 use Rattle.vm_stands.proofs.AheadLemmas.{call_model}
 use Rattle.vm_stands.proofs.FlightLemmas.{step_model}
-use Rattle.vm_stands.specs.Slice.{IsSlice, LeadAhead}
+use Rattle.vm_stands.specs.Slice.{LeadAhead}
 use Rattle.vm_device.specs.Device.{DeviceState, session_of}
 use Rattle.vm_device.specs.Perform.{is_busy, stops_in, must_wait}
-use Rattle.vm_realm.specs.Inner.{Inner, driver_state, id_in, under_way, unsent_in}
-use Rattle.vm_realm.specs.Laws.{GoesOnSoundly, WaitingKeepsSlice}
+use Rattle.vm_realm.specs.Inner.{Inner, driver_state, under_way, unsent_in}
+use Rattle.vm_realm.specs.Laws.{WaitingKeepsSlice}
 use Rattle.vm_realm.specs.Places.{told_state, stopped_by as stopped_many, queued_held, job_held}
-use Rattle.vm_realm.specs.Slice.{Slice, Out, id_ahead, session_in, earlier_of}
-use Rattle.vm_realm.specs.Slice.Out.{Nowhere, Asked, Kept, Told, Astray}
-use Rattle.vm_realm.specs.SliceSteps.{IsDeviceOf}
-use Rattle.vm_realm.specs.Sound.{IsPosted, IsKept, IsTold, NothingExecuted, IsOut, IsShut, IsSeated, spec_running, stopped_last, queue_told, IsSoundSlice}
+use Rattle.vm_realm.specs.Slice.{Slice, id_ahead, session_in, earlier_of}
+use Rattle.vm_realm.specs.Slice.Out.{Asked, Kept, Told}
+use Rattle.vm_realm.specs.Sound.{IsPosted, IsTold, NothingExecuted, IsOut, IsSeated, spec_running, stopped_last, queue_told, IsSoundSlice}
 use Rattle.vm_realm.specs.Users.{AreUsers}
 use Rattle.vm_realm.proofs.KeepOutLemmas.{on_soundly}
 use Rattle.vm_realm.proofs.KeepTakeLemmas.{some_of}

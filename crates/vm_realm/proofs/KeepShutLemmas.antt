@@ -1,9 +1,7 @@
 -- While a handle isn't open nothing is owed, and no message is under way.
-use Rattle.std.proofs.Common.{◌≡◌, ◌⊎◌, inl, inr, ℕ, zero, ◌<◌, Bool, true, false, not, ◌&&◌, List, [], ◌∷◌, map, get_or, length, Option, Some, None, refl, sym, ap, ◌∙◌, subst, arith, if◌then◌else◌, true≢false}
+use Rattle.std.proofs.Common.{◌≡◌, ◌⊎◌, inl, inr, ℕ, ◌<◌, Bool, true, false, not, ◌&&◌, List, [], ◌∷◌, map, length, Option, Some, refl, sym, ap, ◌∙◌, subst, arith, if◌then◌else◌, true≢false}
 use Rattle.std.specs.List.{list_all}
-use Rattle.std.specs.Option.{option_and_then}
 use Rattle.std.proofs.lemmas.Bool.{false≢true, cases_Bool}
-use Rattle.std.proofs.lemmas.List.{length-map}
 use Rattle.std.proofs.lemmas.Option.{none-some}
 use Rattle.v4l_const.specs.declared.errno.Errno.{Errno}
 use Rattle.v4l_const.specs.declared.errno.Errno.TheVariants.{Ebadf}
@@ -16,11 +14,11 @@ use Rattle.vm_local.specs.declared.entry.Entry.{Entry}
 use Rattle.vm_local.specs.declared.entry.Entry.TheVariants.{Called, Finish, Bad, Give}
 use Rattle.vm_local.specs.declared.owed.Owed.{Owed as OwedEntry}
 use Rattle.vm_local.specs.declared.reply.Reply.{Reply}
-use Rattle.vm_local.specs.State.{QueueState, LocalState, opening, opening_queue}
+use Rattle.vm_local.specs.State.{QueueState, LocalState, opening}
 use Rattle.vm_local.specs.Same.{address_in}
 use Rattle.vm_local.specs.Queue.{can_finish, is_empty, stopped_queue, with_buffers}
 use Rattle.vm_local.specs.Calls.{Row, row_of, closed, querycap_row, enumfmt_row, gfmt_row, tryfmt_row, sfmt_row, enuminput_row, ginput_row, sinput_row, reqbufs_row, querybuf_row, ualloc_row, qbuf_row, streamon_row, streamoff_row, dqbuf_row, mmap_row, munmap_row, read_row, hash_row, write_row, fill_row, subscribe_row, unsubscribe_row, dqevent_row}
-use Rattle.vm_local.specs.Log.{row_for, called, after, replay, replay_from}
+use Rattle.vm_local.specs.Log.{row_for, called, after, replay_from}
 use Rattle.vm_local.proofs.KeptLemmas.{some_same}
 use Rattle.vm_local.proofs.StepLemmas.{answered_by, finished_by, failed_by, given_by, Gave}
 use Rattle.vm_commute.specs.Commute.{may_cross, is_step}
@@ -31,18 +29,18 @@ use Rattle.vm_session.specs.declared.unsent.Unsent.{Unsent}
 use Rattle.vm_stands.specs.Flight.{GivesFirst, Leads, LeadAll}
 use Rattle.vm_stands.proofs.AheadLemmas.{reached_all}
 use Rattle.vm_stands.proofs.FlightLemmas.{made_steps}
-use Rattle.vm_realm.proofs.KeepStateLemmas.{IsAlike, step_alike, steps_alike, lead_alike}
+use Rattle.vm_realm.proofs.KeepStateLemmas.{step_alike, steps_alike, lead_alike}
 
 -- ---- what calls do to it
 
 -- a call is refused by a handle that isn't open, or changes nothing of what is owed and of the queues, or opens it
-abbrev ShutRow : LocalState → Row → Type 0
+abbrev pub ShutRow : LocalState → Row → Type 0
 ShutRow s r = (first_refusal r.refusals ≡ Some Ebadf) ⊎ (((r.next.opened ≡ s.opened) × (r.next.queues ≡ s.queues) × (r.next.owed ≡ s.owed)) ⊎ (r.next.opened ≡ true))
 
 if_shut : (b : Bool) (x y : Option Errno) → b ≡ false → (if not b then x else y) ≡ x
 if_shut b x y h = rw h refl
 
-shut_row : (s : LocalState) (line addr : ℕ) (call : Call) → s.opened ≡ false → ShutRow s (row_of s line addr call)
+pub shut_row : (s : LocalState) (line addr : ℕ) (call : Call) → s.opened ≡ false → ShutRow s (row_of s line addr call)
 unfolding querycap_row enumfmt_row gfmt_row tryfmt_row sfmt_row enuminput_row ginput_row sinput_row reqbufs_row querybuf_row ualloc_row qbuf_row streamon_row streamoff_row dqbuf_row mmap_row munmap_row read_row hash_row write_row fill_row subscribe_row unsubscribe_row dqevent_row
 shut_row s line addr (OpenHandle nonblock) h = inr (inr refl)
 shut_row s line addr CloseHandle h = inl (if_shut s.opened (Some Ebadf) _ h)
@@ -72,7 +70,7 @@ shut_row s line addr (Unsubscribe v) h = inl (if_shut s.opened (Some Ebadf) _ h)
 shut_row s line addr DqEvent h = inl (if_shut s.opened (Some Ebadf) _ h)
 
 -- a call leaves a handle open or not, or opens it, or closes it
-open_row : (s : LocalState) (line addr : ℕ) (call : Call) →
+pub open_row : (s : LocalState) (line addr : ℕ) (call : Call) →
     ((row_of s line addr call).next.opened ≡ s.opened) ⊎ (((row_of s line addr call).next.opened ≡ true) ⊎ ((row_of s line addr call).next ≡ closed s))
 unfolding querycap_row enumfmt_row gfmt_row tryfmt_row sfmt_row enuminput_row ginput_row sinput_row reqbufs_row querybuf_row ualloc_row qbuf_row streamon_row streamoff_row dqbuf_row mmap_row munmap_row read_row hash_row write_row fill_row subscribe_row unsubscribe_row dqevent_row with_buffers
 open_row s line addr (OpenHandle nonblock) = inr (inl refl)
@@ -146,7 +144,7 @@ nothing : (o : OwedEntry) (rest : List OwedEntry) → [] ≡ o ∷ rest → ⊥
 nothing o rest h = true≢false (ap (λ xs. is_empty xs) h)
 
 -- no step of the device is made while it isn't open
-no_step : (s t : LocalState) (e : Entry) → is_step e ≡ true → IsBare s → after s e ≡ Some t → ⊥
+pub no_step : (s t : LocalState) (e : Entry) → is_step e ≡ true → IsBare s → after s e ≡ Some t → ⊥
 no_step s t (Called line call reply) step bare leads = false≢true step
 no_step s t Finish step bare leads = true≢false (sym (finished_by s t leads).0 ∙ bare.1)
 no_step s t Bad step bare leads = true≢false (sym (failed_by s t leads).0 ∙ bare.1)
@@ -170,7 +168,7 @@ bare_all (e ∷ es) s t reached bare leads =
     let by : _ = by_first s t e es leads in
     bare_all es by.0 t (reached_after s by.0 e reached by.1) (bare_after s by.0 e reached bare by.1) by.2
 
-opening_bare : (m : Model) → IsBareShut (opening m)
+pub opening_bare : (m : Model) → IsBareShut (opening m)
 opening_bare Capture = λ shut. (refl, refl)
 opening_bare Convert = λ shut. (refl, refl)
 
@@ -179,7 +177,7 @@ shut_bare s (m, log, leads) shut = bare_all log (opening m) s (m, [], refl) (ope
 
 -- ---- messages
 
-none_first : (id : ℕ) (s : LocalState) (owed : List OwedEntry) (e : Unsent) → owed ≡ [] → GivesFirst id s owed e → ⊥
+pub none_first : (id : ℕ) (s : LocalState) (owed : List OwedEntry) (e : Unsent) → owed ≡ [] → GivesFirst id s owed e → ⊥
 none_first id s owed e is gives = subst (λ os. GivesFirst id s os e) is gives
 
 -- no message leads on from a handle that isn't open

@@ -1,14 +1,12 @@
 -- What the steps of the device leave of a state, and what the users' memories keep by it.
-use Rattle.std.proofs.Common.{◌≡◌, ℕ, true, false, Bool, List, [], ◌∷◌, ◌++◌, All, length, map, Option, Some, None, refl, sym, ap, ◌∙◌, subst}
-use Rattle.std.specs.Prelude.{Contains, unwrap_or}
-use Rattle.std.proofs.lemmas.Bool.{false≢true}
+use Rattle.std.proofs.Common.{◌≡◌, ℕ, true, List, [], ◌∷◌, length, map, Some, refl, sym, ap, ◌∙◌, subst}
+use Rattle.std.specs.Prelude.{Contains}
 use Rattle.std.proofs.lemmas.List.Elements.{All-head, All-tail, All-weaker}
 use Rattle.vm_frame.specs.Mem.{mem_rest}
 use Rattle.vm_frame.specs.declared.mem.Held.{Held}
 use Rattle.vm_frame.specs.declared.mem.Mem.{Mem}
 use Rattle.vm_frame.specs.declared.mem.Mem.TheVariants.{OfUser}
 use Rattle.vm_sg.specs.UserMemory.{user_memory}
-use Rattle.vm_local.specs.declared.bound.Bound.{Bound}
 use Rattle.vm_local.specs.declared.buffer.Buffer.{Buffer}
 use Rattle.vm_local.specs.declared.call.Call.{Call}
 use Rattle.vm_local.specs.declared.call.Call.TheVariants.{Peek, Hash, Poke, Fill}
@@ -121,9 +119,12 @@ lead_idle id r s es u i reached leads =
 -- ---- users' memories
 
 pub users_alike : (s t : LocalState) (m : ℕ) (mem : Mem) → IsAlike s t → IsUsers s m mem → IsUsers t m mem
-users_alike s t m mem alike users = λ b line off there is kind.
-    users b line off (subst (λ bs. Contains bs b) alike.bound there) is kind
-    ∙ ap (λ n. mem_rest (OfUser (user_memory line n off))) (sym (alike.long m))
+users_alike s t m mem alike users = record {
+  pages = λ b line off there is kind.
+      users.pages b line off (subst (λ bs. Contains bs b) alike.bound there) is kind
+      ∙ ap (λ n. mem_rest (OfUser (user_memory line n off))) (sym (alike.long m));
+  holds = users.holds;
+}
 
 pub held_alike : (s t : LocalState) (held : List Held) → IsAlike s t → AreUsers s held → AreUsers t held
 held_alike s t held alike users =

@@ -1,18 +1,15 @@
 -- Of a queue that a call stopped no frame is made until another call begins it anew.
-use Rattle.std.proofs.Common.{◌≡◌, ◌⊎◌, inl, inr, ℕ, zero, suc, ◌<◌, ◌+◌, Bool, true, false, not, ◌&&◌, nat_lt, List, [], ◌∷◌, ◌++◌, All, length, map, get_or, set, Option, Some, None, refl, sym, ap, ◌∙◌, subst, arith, if◌then◌else◌, true≢false}
-use Rattle.std.specs.List.{list_all}
-use Rattle.std.proofs.lemmas.Bool.{false≢true, cases_Bool, ltb-true, not-false}
+use Rattle.std.proofs.Common.{◌≡◌, ◌⊎◌, inl, inr, ℕ, zero, suc, ◌<◌, Bool, true, false, List, [], ◌∷◌, ◌++◌, All, length, map, get_or, set, Option, Some, None, refl, sym, ap, ◌∙◌, subst, arith, if◌then◌else◌, true≢false}
+use Rattle.std.proofs.lemmas.Bool.{false≢true, ltb-true, not-false}
 use Rattle.std.proofs.lemmas.List.{get_or-set_same}
 use Rattle.std.proofs.Math.ListN.{get_or-map}
 use Rattle.std.proofs.lemmas.List.Elements.{All-nil, All-cons, All-head, All-tail, All-weaker}
-use Rattle.v4l_const.specs.declared.errno.Errno.{Errno}
-use Rattle.v4l_const.specs.declared.errno.Errno.TheVariants.{Enomem}
 use Rattle.v4l_const.specs.declared.model.Model.{Model}
 use Rattle.v4l_const.specs.declared.model.Model.TheVariants.{Capture, Convert}
 use Rattle.v4l_const.specs.declared.numbers.TheConstants.{BUF_TYPE_CAPTURE, BUF_TYPE_OUTPUT}
 use Rattle.v4l_const.specs.Model.{queues as types_of}
 use Rattle.v4l_rules.specs.Queues.{place_in, has_type}
-use Rattle.v4l_rules.specs.Refusals.{first_refusal, no_type}
+use Rattle.v4l_rules.specs.Refusals.{first_refusal}
 use Rattle.v4l_rules.proofs.SetLemmas.{set_keeps, formatted_keeps}
 use Rattle.vm_local.specs.declared.call.Call.{Call}
 use Rattle.vm_local.specs.declared.call.Call.TheVariants.{OpenHandle, CloseHandle, QueryCap, EnumFmt, GFmt, TryFmt, SFmt, EnumInput, GInput, SInput, ReqBufs, QueryBuf, UAlloc, QBuf, StreamOn, StreamOff, DqBuf, Mmap, Munmap, Peek, Hash, Poke, Fill, Subscribe, Unsubscribe, DqEvent}
@@ -24,7 +21,7 @@ use Rattle.vm_local.specs.declared.owed.OwedItem.TheVariants.{Buffer as OwedBuff
 use Rattle.vm_local.specs.declared.reply.Reply.{Reply}
 use Rattle.vm_local.specs.State.{QueueState, LocalState, opening, opening_queue, queue_kind, queue_of}
 use Rattle.vm_local.specs.Same.{address_in}
-use Rattle.vm_local.specs.Queue.{can_finish, is_empty, stopped_queue, stopped, with_buffers, memory_kind, granted, adjusted_for, started, taken_back}
+use Rattle.vm_local.specs.Queue.{can_finish, is_empty, stopped_queue, with_buffers, adjusted_for, started, taken_back}
 use Rattle.vm_local.specs.Steps.{counted, with_done, item_given}
 use Rattle.vm_local.specs.Calls.{Row, row_of, closed, querycap_row, enumfmt_row, gfmt_row, tryfmt_row, sfmt_row, enuminput_row, ginput_row, sinput_row, reqbufs_row, querybuf_row, ualloc_row, qbuf_row, streamon_row, streamoff_row, dqbuf_row, mmap_row, munmap_row, read_row, hash_row, write_row, fill_row, subscribe_row, unsubscribe_row, dqevent_row}
 use Rattle.vm_local.specs.Log.{IsCall, row_for, called, after, replay, replay_from}
@@ -38,7 +35,7 @@ use Rattle.vm_home.specs.Moves.{is_refusal, is_stopping, stops}
 use Rattle.vm_home.specs.Reached.{IsReached}
 use Rattle.vm_session.specs.declared.unsent.Unsent.{Unsent}
 use Rattle.vm_exchange.specs.Messages.{flight_of}
-use Rattle.vm_stands.specs.Flight.{stops_queues, LeadAll}
+use Rattle.vm_stands.specs.Flight.{LeadAll}
 use Rattle.vm_stands.specs.Slice.{LeadWith, LeadAhead}
 use Rattle.vm_stands.proofs.AheadLemmas.{call_model, flight_steps}
 use Rattle.vm_stands.proofs.FlightLemmas.{all_replay}

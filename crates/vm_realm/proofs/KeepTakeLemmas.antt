@@ -1,11 +1,11 @@
 -- An event that is taken keeps a slice sound.
-use Rattle.std.proofs.Common.{◌≡◌, ◌⊎◌, inl, inr, ℕ, zero, suc, ◌<◌, true, false, Bool, not, List, [], ◌∷◌, ◌++◌, map, get_or, set, length, Option, Some, None, IsSome, refl, sym, ap, ◌∙◌, subst, arith, append_assoc}
+use Rattle.std.proofs.Common.{◌≡◌, ◌⊎◌, inl, inr, ℕ, zero, suc, ◌<◌, true, false, Bool, List, [], ◌∷◌, ◌++◌, map, get_or, set, length, Option, Some, None, IsSome, refl, sym, ap, ◌∙◌, subst, arith, append_assoc}
 use Rattle.std.proofs.lemmas.Bool.{false≢true, not-false}
 use Rattle.std.proofs.lemmas.Option.{none-some}
 use Rattle.std.proofs.lemmas.List.Elements.{All-nil, All-cons, All-append, All-head, All-tail, All-weaker}
 use Rattle.std.specs.List.{filter_map, cons_option}
-use Rattle.std.specs.Prelude.{IfSome, All, Contains, slice_set, take, unwrap_or, if◌then◌else◌}
-use Rattle.std.specs.Option.{option_map, option_and_then, option_to_list}
+use Rattle.std.specs.Prelude.{IfSome, All, Contains, take, unwrap_or, if◌then◌else◌}
+use Rattle.std.specs.Option.{option_and_then, option_to_list}
 use Rattle.v4l_const.specs.declared.errno.Errno.{Errno}
 use Rattle.v4l_const.specs.declared.model.Model.{Model}
 use Rattle.v4l_const.specs.Model.{queues as types_of}
@@ -30,7 +30,7 @@ use Rattle.vm_local.specs.declared.owed.Owed.{Owed as OwedEntry}
 use Rattle.vm_local.specs.declared.owed.OwedItem.{OwedItem}
 use Rattle.vm_local.specs.declared.owed.OwedItem.TheVariants.{Buffer as OwedBuffer, Sync}
 use Rattle.vm_local.specs.declared.reply.Reply.{Reply}
-use Rattle.vm_local.specs.declared.reply.Reply.TheVariants.{Refused, Count, Done}
+use Rattle.vm_local.specs.declared.reply.Reply.TheVariants.{Refused, Count}
 use Rattle.vm_local.specs.State.{QueueState, LocalState, opening, opening_queue, no_buffer, queue_of, with_queue, buffer_of}
 use Rattle.vm_local.specs.Same.{address_in}
 use Rattle.vm_local.specs.Queue.{made_idle, first_done, taken_back}
@@ -47,14 +47,13 @@ use Rattle.vm_home.specs.Reached.{IsReached}
 use Rattle.vm_home.proofs.KeptLemmas.{kept_at, kept_long}
 use Rattle.vm_log.specs.Answers.{answered_with, number_in, number_owed, first_number}
 use Rattle.vm_log.specs.LegalLog.{LogState, state_after, state_of, lease_in, with_entry}
-use Rattle.vm_log.specs.declared.away.Away.{Away}
 use Rattle.vm_exchange.specs.Exchange.{from_open, way_of, response_to, crossing}
 use Rattle.vm_exchange.specs.Messages.{made_by, steps_of}
 use Rattle.vm_exchange.specs.declared.way.Way.{Way}
 use Rattle.vm_exchange.specs.declared.way.Way.TheVariants.{Crosses, AnsweredHere, Waits, TouchesMemory}
 use Rattle.vm_handle.specs.Answers.{row_from, answered_by as answered_by_row, answered_here, with_steps, with_given, answered_at, awoken, delivered}
 use Rattle.vm_handle.specs.Handle.{HandleState, id_of, way_from, crossing_from, is_dqbuf, FitsStage}
-use Rattle.vm_handle.specs.Messages.{GivesItem as IsGiven, GivesFirst as AreGiven, state_made, Delivers}
+use Rattle.vm_handle.specs.Messages.{GivesItem as IsGiven, GivesFirst as AreGiven, Delivers}
 use Rattle.vm_handle.specs.declared.stage.Stage.{Stage}
 use Rattle.vm_handle.specs.declared.stage.Stage.TheVariants.{AtRest, Underway, Waiting}
 use Rattle.vm_handle.proofs.DeliverLemmas.{steps_lead, gives_there}
@@ -67,20 +66,19 @@ use Rattle.vm_stands.specs.Ahead.{MayDeliver}
 use Rattle.vm_stands.specs.Flight.{stops_queues, given_record, queued_record, note_of, IsHeldAt, GivesItem, GivesFirst, Leads, LeadAll}
 use Rattle.vm_stands.specs.Laws.{Along}
 use Rattle.vm_stands.specs.Slice.{IsSlice, LeadWith, LeadAhead}
-use Rattle.vm_stands.specs.Stands.{IsMemoryAt}
 use Rattle.vm_stands.proofs.AheadLemmas.{reached_all}
 use Rattle.vm_stands.proofs.FlightLemmas.{made_steps, leads_replay}
 use Rattle.vm_realm.specs.Inner.{Inner, driver_state, id_in, under_way, unsent_in}
 use Rattle.vm_realm.specs.Laws.{GoesOnSoundly}
-use Rattle.vm_realm.specs.Places.{told_state, told_state_if, stops_last, stopped_by as stopped_many, queued_held, job_held}
+use Rattle.vm_realm.specs.Places.{told_state, told_state_if, stops_last, stopped_by as stopped_many}
 use Rattle.vm_realm.specs.Slice.{Slice, Out, id_ahead, unsent_by, earlier_of}
 use Rattle.vm_realm.specs.Slice.Out.{Nowhere, Asked, Kept, Told, Astray}
 use Rattle.vm_realm.specs.SliceSteps.{IsFirst, holds_back, taken, Takes}
-use Rattle.vm_realm.specs.Sound.{IsPosted, IsKept as IsWaiting, IsBefore, IsTold, IsOut, IsShut, IsSeated, HoldsFew, last_call_from, stopped_by, stopped_last, queue_told, IsStill, IsSoundSlice}
+use Rattle.vm_realm.specs.Sound.{IsPosted, IsBefore, IsTold, IsOut, IsSeated, HoldsFew, last_call_from, stopped_by, stopped_last, queue_told, IsStill, IsSoundSlice}
 use Rattle.vm_realm.specs.Users.{IsUsers, AreUsers}
-use Rattle.vm_realm.proofs.KeepStateLemmas.{IsAlike, alike_itself, alike_then, alike_back, step_alike, steps_alike, lead_alike, users_alike, held_alike, touched_alike}
-use Rattle.vm_realm.proofs.KeepOutLemmas.{append_none, on_soundly, moved, IsMove, moved_sound}
-use Rattle.vm_realm.proofs.KeepOwnLemmas.{leads_of, told_held, IsFree, IsOneOf, IsLogged, own_sound}
+use Rattle.vm_realm.proofs.KeepStateLemmas.{IsAlike, alike_itself, alike_then, alike_back, steps_alike, lead_alike, users_alike, held_alike, touched_alike}
+use Rattle.vm_realm.proofs.KeepOutLemmas.{append_none, on_soundly, moved, moved_sound}
+use Rattle.vm_realm.proofs.KeepOwnLemmas.{leads_of, told_held, IsFree, IsLogged, own_sound}
 
 -- ---- it is held back
 

@@ -1,21 +1,19 @@
 -- A mapping that is given back keeps a slice sound, that of a closed handle too.
-use Rattle.std.proofs.Common.{◌≡◌, ◌⊎◌, inl, inr, ℕ, ◌<◌, ◌^◌, true, false, Bool, not, List, [], ◌∷◌, ◌++◌, All, get_or, Option, Some, None, IsSome, refl, sym, ap, ◌∙◌, subst, lit<, if◌then◌else◌, true≢false}
-use Rattle.std.specs.List.{filter_map, find}
+use Rattle.std.proofs.Common.{◌≡◌, ◌⊎◌, inl, inr, ℕ, ◌<◌, ◌^◌, true, not, List, [], ◌∷◌, ◌++◌, Option, Some, None, IsSome, refl, sym, ap, ◌∙◌, subst, lit<}
+use Rattle.std.specs.List.{filter_map}
 use Rattle.std.specs.Str.{bytes_eq}
 use Rattle.std.specs.Option.{option_map, option_to_list}
-use Rattle.std.specs.Prelude.{IfSome, Contains, Ok, is_some, take}
+use Rattle.std.specs.Prelude.{IfSome, Contains, Ok, take}
 use Rattle.std.proofs.lemmas.Bool.{false≢true, not-false}
-use Rattle.std.proofs.lemmas.Option.{none-some}
-use Rattle.std.proofs.lemmas.List.Elements.{All-nil, All-weaker}
+use Rattle.std.proofs.lemmas.List.Elements.{All-nil}
 use Rattle.v4l_const.specs.declared.errno.Errno.TheVariants.{Einval}
 use Rattle.v4l_rules.specs.Refusals.{first_refusal}
 use Rattle.vm_frame.specs.declared.mem.Held.{Held}
 use Rattle.vm_job.specs.Job.{JobParts}
-use Rattle.vm_region.specs.Region.{RegionState, range_at, Unmaps}
+use Rattle.vm_region.specs.Region.{RegionState, range_at}
 use Rattle.vm_region.specs.declared.live_range.LiveRange.{LiveRange}
 use Rattle.vm_wire.specs.Message.{Posting, Returning}
 use Rattle.vm_wire.specs.Message.Ask.{Judged}
-use Rattle.vm_wire.specs.Wire.{response_bytes}
 use Rattle.vm_wire.specs.declared.command.Command.{Command}
 use Rattle.vm_wire.specs.declared.command.Command.TheVariants.{Unmap}
 use Rattle.vm_wire.specs.declared.response.Response.TheVariants.{Opened, Unmapped}
@@ -32,14 +30,11 @@ use Rattle.vm_local.specs.State.{LocalState}
 use Rattle.vm_local.specs.Memory.{named, is_mapping, unbound}
 use Rattle.vm_local.specs.Same.{address_in}
 use Rattle.vm_local.specs.Calls.{row_of, munmap_row}
-use Rattle.vm_local.specs.Log.{IsCall, row_for, called, after}
-use Rattle.vm_local.proofs.KeptLemmas.{some_same}
+use Rattle.vm_local.specs.Log.{IsCall, row_for, called}
 use Rattle.vm_local.proofs.StepLemmas.{passes, answered_by}
-use Rattle.vm_commute.proofs.ReachedLemmas.{reached_after}
 use Rattle.vm_home.specs.Moves.{memory_at, ComeBack}
-use Rattle.vm_home.specs.Reached.{IsReached}
 use Rattle.vm_exchange.specs.declared.crossing.Crossing.{Crossing}
-use Rattle.vm_exchange.specs.Exchange.{address_of, crossing, crossing_of, response_to}
+use Rattle.vm_exchange.specs.Exchange.{address_of, response_to}
 use Rattle.vm_exchange.proofs.FitLemmas.{crossed_unrefused}
 use Rattle.vm_exchange.proofs.OutcomeLemmas.{outcome}
 use Rattle.vm_handle.specs.Handle.{id_of, crossing_from}
@@ -48,25 +43,24 @@ use Rattle.vm_session.specs.State.{SessionState}
 use Rattle.vm_session.specs.declared.unsent.Unsent.{Unsent}
 use Rattle.vm_stands.specs.Flight.{LeadAll}
 use Rattle.vm_stands.specs.Laws.{Along}
-use Rattle.vm_stands.specs.Slice.{IsSlice, LeadAhead}
+use Rattle.vm_stands.specs.Slice.{IsSlice}
 use Rattle.vm_stands.proofs.AnswerLemmas.{done, nothing_back}
 use Rattle.vm_stands.proofs.ApartLemmas.{slice_stays_apart}
 use Rattle.vm_device.specs.Device.{DeviceState}
-use Rattle.vm_device.specs.Perform.{Answer, UnmapsAt, with_region, must_wait}
-use Rattle.vm_realm.specs.Inner.{Inner, driver_state, id_in, under_way, unsent_in}
+use Rattle.vm_device.specs.Perform.{Answer, UnmapsAt, with_region}
+use Rattle.vm_realm.specs.Inner.{Inner, driver_state, unsent_in}
 use Rattle.vm_realm.specs.Laws.{GoesOnSoundly, CallsKeepSlice, gives_mapping}
 use Rattle.vm_realm.specs.Places.{job_held}
 use Rattle.vm_realm.specs.Slice.{Slice, id_ahead, session_in, earlier_of}
 use Rattle.vm_realm.specs.Slice.Out.{Asked, Kept, Told}
 use Rattle.vm_realm.specs.SliceSteps.{IsDeviceOf, IsServed, told_by}
-use Rattle.vm_realm.specs.Sound.{IsPosted, IsShut, IsSeated, IsSoundSlice, IsWholeSlice}
+use Rattle.vm_realm.specs.Sound.{IsPosted, IsShut, IsSeated, IsSoundSlice}
 use Rattle.vm_realm.specs.Users.{AreUsers}
 use Rattle.vm_realm.proofs.KeepStateLemmas.{IsAlike, lead_alike}
 use Rattle.vm_realm.proofs.KeepOutLemmas.{on_soundly}
-use Rattle.vm_realm.proofs.KeepOwnLemmas.{told_held}
-use Rattle.vm_realm.proofs.KeepServeLemmas.{asked_same, IsDone, done_sound}
+use Rattle.vm_realm.proofs.KeepServeLemmas.{asked_same, done_sound}
 use Rattle.vm_realm.proofs.KeepOpenLemmas.{IsOutside, outside, none_along, told_id, shut_none}
-use Rattle.vm_realm.proofs.KeepPlainLemmas.{IsPlainCall, IsAnswered, answered_sound, same_itself}
+use Rattle.vm_realm.proofs.KeepPlainLemmas.{IsPlainCall, answered_sound, same_itself}
 use Rattle.vm_realm.proofs.PartLemmas.{find_in}
 
 -- ---- the call
@@ -75,7 +69,6 @@ unmap_call : (name : List ℕ) → IsPlainCall (Munmap name)
 unmap_call name = record {
   may = refl;
   never = refl;
-  unsubscribed = refl;
   nothing = λ s. refl;
   none_made = λ s. refl;
   frames = λ s. refl;

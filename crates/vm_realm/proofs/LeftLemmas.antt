@@ -1,25 +1,22 @@
 -- Each step of the world lowers what is left.
-use Rattle.std.proofs.Common.{◌≡◌, ℕ, ◌+◌, ◌*◌, ◌-◌, ◌<◌, ◌≤◌, Bool, true, false, List, [], ◌∷◌, ◌++◌, Option, Some, None, is_some, length, refl, sym, ap, ◌∙◌, subst, arith, length-append}
+use Rattle.std.proofs.Common.{◌≡◌, ℕ, ◌+◌, ◌*◌, ◌<◌, ◌≤◌, List, [], ◌∷◌, length, refl, sym, ap, ◌∙◌, subst, arith, length-append}
 use Rattle.std.specs.Prelude.{sum_by}
 use Rattle.std.specs.Option.{option_to_list}
 use Rattle.std.proofs.lemmas.List.{length_push}
 use Rattle.std.proofs.lemmas.List.Sums.{sum_by-cons}
-use Rattle.vm_job.specs.Job.{JobParts, DoneParts}
-use Rattle.vm_wire.specs.Message.{Posting, Returning}
-use Rattle.vm_wire.specs.declared.delivery.Delivery.{Delivery}
+use Rattle.vm_wire.specs.Message.{Posting}
 use Rattle.vm_device.specs.Device.{DeviceState}
-use Rattle.vm_host.specs.Part.{Part}
 use Rattle.vm_realm.specs.declared.step.Step.{Step}
 use Rattle.vm_realm.specs.declared.step.Step.TheVariants.{Issue, Execute, Resume, Begin, Finish, Announce, Collect, Pump, Lease, GiveBack}
 use Rattle.vm_realm.specs.World.{WorldState}
 use Rattle.vm_realm.specs.Left.{left_of, request_weight}
 use Rattle.vm_realm.specs.Inner.{Inner}
 use Rattle.vm_realm.specs.Sound.{IsSound, IsSoundBy}
-use Rattle.vm_realm.specs.Steps.{after_device, DoesExecute, DoesResume, with_device, DoesBegin, DoesFinish, DoesAnnounce, Does, Steps}
+use Rattle.vm_realm.specs.Steps.{DoesExecute, DoesResume, with_device, DoesBegin, DoesFinish, DoesAnnounce, Steps}
 use Rattle.vm_realm.proofs.DeviceLemmas.{all_queued}
 use Rattle.vm_realm.proofs.DriverLeftLemmas.{issue_falls, collect_falls, pump_falls, lease_falls, give_back_falls}
 use Rattle.vm_realm.proofs.FramesLemmas.{session_few_more}
-use Rattle.vm_realm.proofs.PartLemmas.{part_weight, executed_falls, resumed_falls, begins_falls, finishes_falls, announced_falls}
+use Rattle.vm_realm.proofs.PartLemmas.{executed_falls, resumed_falls, begins_falls, finishes_falls, announced_falls}
 use Rattle.vm_realm.proofs.WaitingLemmas.{waits_none}
 
 execute_first : (w w' : WorldState) (ms : List Posting) → w.requests ≡ ms → DoesExecute ms w w' → left_of w' < left_of w

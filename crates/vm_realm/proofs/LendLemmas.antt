@@ -1,48 +1,44 @@
 -- A lease that goes out or comes back moves the slice of its handle.
-use Rattle.std.proofs.Common.{◌≡◌, ℕ, zero, suc, ◌+◌, ◌<◌, ◌≤◌, Bool, true, false, not, List, [], ◌∷◌, Option, Some, None, is_some, length, get_or, set, map, refl, sym, ap, ◌∙◌, subst, arith, inl, inr, if◌then◌else◌}
+use Rattle.std.proofs.Common.{◌≡◌, ℕ, zero, suc, ◌<◌, true, false, List, [], ◌∷◌, Option, Some, None, is_some, length, get_or, set, refl, sym, ap, ◌∙◌, subst, arith, inl, inr, if◌then◌else◌}
 use Rattle.std.specs.Prelude.{slice_get}
 use Rattle.std.specs.List.{All}
 use Rattle.std.specs.Option.{option_and_then}
 use Rattle.std.proofs.lemmas.Bool.{false≢true, cases_eq}
-use Rattle.std.proofs.lemmas.List.{length-map, get_or-map, get_or-set_same, get_or-set_other}
+use Rattle.std.proofs.lemmas.List.{get_or-set_same, get_or-set_other}
 use Rattle.std.proofs.lemmas.List.Elements.{All-get_or, All-tail}
-use Rattle.std.proofs.lemmas.Option.{none-some, same_Some, slice_get-get_or, option_and_then_some}
-use Rattle.v4l_rules.specs.Refusals.{first_refusal}
+use Rattle.std.proofs.lemmas.Option.{none-some, same_Some, option_and_then_some}
 use Rattle.vm_lease.specs.Lease.{LeaseParts, CameBackDone}
 use Rattle.vm_lease.specs.declared.lease_out.LeaseOut.{LeaseOut}
 use Rattle.vm_local.specs.declared.call.Call.{Call}
-use Rattle.vm_log.specs.Answers.{with_line, given_back as log_given_back}
-use Rattle.vm_log.specs.LegalLog.{LogState, lease_in}
+use Rattle.vm_log.specs.Answers.{given_back as log_given_back}
 use Rattle.vm_log.specs.declared.leased.Leased.{Leased}
 use Rattle.vm_log.specs.declared.leased.Leased.TheVariants.{Out as GoneOut, Answered, Idle}
 use Rattle.vm_script.specs.Script.{ProcessLines}
 use Rattle.vm_script.specs.declared.line.Line.{Line}
 use Rattle.vm_script.specs.declared.line.LineKind.{LineKind}
 use Rattle.vm_script.specs.declared.line.LineKind.TheVariants.{OnHandle, Raw}
-use Rattle.vm_handle.specs.Answers.{row_from}
 use Rattle.vm_handle.specs.Handle.{HandleState}
 use Rattle.vm_guest.specs.Asking.{statement_of, statements_of, asked_in, asked_by, is_leased}
-use Rattle.vm_guest.specs.Guest.{GuestState, no_process, process_in, process_at, with_process}
-use Rattle.vm_guest.specs.Lines.{after_lease, LeasesCall, returned_to, returned}
-use Rattle.vm_guest.specs.Orderly.{IsDriver, IsOrderly, IsFitProcess, IsFitKind, IsOut, IsOutAt, lines_at}
-use Rattle.vm_guest.specs.Process.{ProcessState, begun, is_at_rest, is_crossing, is_lent, some_if, kept_by, next, current, current_call, crossing_call, issuing, leasing, lease_on, lease_out, handle_at, with_handle, with_log, no_handle, doing, rested}
-use Rattle.vm_guest.specs.Steps.{LeasesFor, Leases, given_back}
+use Rattle.vm_guest.specs.Guest.{GuestState, no_process, process_at, with_process}
+use Rattle.vm_guest.specs.Lines.{after_lease, returned_to}
+use Rattle.vm_guest.specs.Orderly.{IsDriver, IsOrderly, IsFitKind, IsOutAt, lines_at}
+use Rattle.vm_guest.specs.Process.{ProcessState, is_at_rest, is_crossing, is_lent, some_if, kept_by, next, current, current_call, crossing_call, leasing, lease_on, lease_out, handle_at, with_log, no_handle}
+use Rattle.vm_guest.specs.Steps.{LeasesFor}
 use Rattle.vm_guest.specs.declared.asked.Asked.{Asked as AskedCall}
 use Rattle.vm_guest.specs.declared.asked.Statement.{Statement}
 use Rattle.vm_guest.specs.declared.status.Status.{Status}
-use Rattle.vm_guest.specs.declared.status.Status.TheVariants.{AtRest, Crossing, Blocked, Lent}
-use Rattle.vm_realm.specs.declared.step.Step.{Step}
+use Rattle.vm_guest.specs.declared.status.Status.TheVariants.{AtRest, Lent}
 use Rattle.vm_realm.specs.declared.step.Step.TheVariants.{Lease, GiveBack}
 use Rattle.vm_realm.specs.World.{WorldState, jobs_out}
 use Rattle.vm_realm.specs.Inner.{Inner}
 use Rattle.vm_realm.specs.Steps.{DoesLease, DoesGiveBack}
-use Rattle.vm_realm.specs.Slice.{Slice, Out, session_in, job_in, events_for, out_of, is_on, out_at, slice_with, slice_at, SameElsewhere}
+use Rattle.vm_realm.specs.Slice.{session_in, job_in, events_for, out_of, is_on, out_at, slice_with, slice_at, SameElsewhere}
 use Rattle.vm_realm.specs.Slice.Out.{Nowhere}
-use Rattle.vm_realm.specs.SliceSteps.{MayStart, SliceDoes, MovesOne}
+use Rattle.vm_realm.specs.SliceSteps.{MovesOne}
 use Rattle.vm_realm.specs.Sound.{IsSoundBy}
 use Rattle.vm_realm.proofs.SumLemmas.{place_within}
 use Rattle.vm_realm.proofs.ProcessLemmas.{next_is, kept_some, some_where, lent_is}
-use Rattle.vm_realm.proofs.FrameLemmas.{SameParts, same_slice}
+use Rattle.vm_realm.proofs.FrameLemmas.{same_slice}
 
 -- ---- one handle of a process at rest is exchanged
 

@@ -1,22 +1,21 @@
 -- Where a step moves one handle, the rest of the world is behind the slices as it was.
-use Rattle.std.proofs.Common.{◌≡◌, ◌⊎◌, ℕ, zero, suc, ◌+◌, ◌<◌, ◌≤◌, Bool, true, false, List, [], ◌∷◌, ◌++◌, Option, Some, None, length, get_or, map, is_some, refl, sym, ap, ◌∙◌, subst, arith, inl, inr, eqb, cond, if◌then◌else◌}
-use Rattle.std.specs.Prelude.{◌&&◌, slice_get, slice_index_or}
+use Rattle.std.proofs.Common.{◌≡◌, ◌⊎◌, ℕ, zero, suc, ◌+◌, ◌<◌, false, List, [], ◌∷◌, ◌++◌, Some, length, get_or, map, is_some, refl, sym, ap, ◌∙◌, subst, arith, inl, inr, eqb, if◌then◌else◌}
+use Rattle.std.specs.Prelude.{◌&&◌, slice_get}
 use Rattle.std.specs.Option.{option_and_then}
-use Rattle.std.proofs.lemmas.Bool.{false≢true, cases_Bool, cases_eq, cases_lt, eq-eqb, ne_eqb, and_from, and_left, and_right}
+use Rattle.std.proofs.lemmas.Bool.{cases_eq, cases_lt, eq-eqb, ne_eqb, and_from, and_left, and_right}
 use Rattle.std.proofs.lemmas.List.{append-nil, get_or_past}
-use Rattle.std.proofs.lemmas.Option.{none-some, same_Some, get_or_from_slice_get, slice_get_within, slice_get-get_or}
+use Rattle.std.proofs.lemmas.Option.{none-some, get_or_from_slice_get}
 use Rattle.vm_handle.specs.Handle.{HandleState}
 use Rattle.vm_region.specs.Region.{RegionState}
-use Rattle.vm_region.specs.declared.live_range.LiveRange.{LiveRange}
-use Rattle.vm_guest.specs.Guest.{GuestState, no_process, process_at, handle_named}
+use Rattle.vm_guest.specs.Guest.{no_process, process_at, handle_named}
 use Rattle.vm_guest.specs.Orderly.{IsDriver}
 use Rattle.vm_guest.specs.Process.{ProcessState, handle_at}
 use Rattle.vm_script.specs.Script.{ScriptLines}
 use Rattle.vm_realm.specs.World.{WorldState}
 use Rattle.vm_realm.specs.Inner.{Inner, inner_of, driver_state}
-use Rattle.vm_realm.specs.Mapped.{Mapping as Telling, Share, no_share, IsTagged, IsJournalOf, DealsFrom}
-use Rattle.vm_realm.specs.Slice.{Slice, id_ahead, out_at, slice_at, SameElsewhere}
-use Rattle.vm_realm.specs.Sound.{IsSoundSlice, IsSoundBy, IsHandle, id_at, inner_at, share_of, shares_from, all_shares}
+use Rattle.vm_realm.specs.Mapped.{Share, no_share, IsTagged, IsJournalOf, DealsFrom}
+use Rattle.vm_realm.specs.Slice.{id_ahead, slice_at, SameElsewhere}
+use Rattle.vm_realm.specs.Sound.{IsSoundSlice, IsHandle, id_at, inner_at, share_of, shares_from, all_shares}
 use Rattle.vm_realm.proofs.FrameLemmas.{handle_there}
 use Rattle.vm_realm.proofs.ShareLemmas.{IsThere, named_there, is_there, share_at}
 
@@ -113,15 +112,15 @@ slices_lift w u rows n h v sound stay others own m k named = by_place (cases_eq 
 
 -- ---- shares
 
--- the same mappings, of the same session, which may have made more frames
+-- the same mappings, of the same session where there was one, which may have made more frames
 pub record LaterShare (s t : Share) : Type 0 where
   pub mappings : t.mappings ≡ s.mappings
-  pub id : t.id ≡ s.id
+  pub id : (i : ℕ) → s.id ≡ Some i → t.id ≡ Some i
   pub more : List ℕ
   pub frames : t.frames ≡ s.frames ++ more
 
 pub same_share : (s t : Share) → t ≡ s → LaterShare s t
-same_share s t is = record { mappings = ap (λ (x : Share). x.mappings) is; id = ap (λ (x : Share). x.id) is; more = []; frames = ap (λ (x : Share). x.frames) is ∙ sym (append-nil s.frames) }
+same_share s t is = record { mappings = ap (λ (x : Share). x.mappings) is; id = λ i own. ap (λ (x : Share). x.id) is ∙ own; more = []; frames = ap (λ (x : Share). x.frames) is ∙ sym (append-nil s.frames) }
 
 abbrev pub AreLater : List Share → List Share → Type 0
 AreLater [] [] = Unit {0}
@@ -161,6 +160,7 @@ journal_later ss ts region later j = record {
   deals = subst (λ lists. DealsFrom [] region.journal lists j.lives) (sym (later_mappings ss ts later)) j.deals;
   live = j.live;
   apart = j.apart;
+  low = j.low;
   tagged = λ addr r is. (
       let t : IsTagged ss j.lives r = j.tagged addr r is in
       let at : LaterShare (get_or ss t.life.handle no_share) (get_or ts t.life.handle no_share) = later_at ss ts t.life.handle later in
@@ -168,9 +168,10 @@ journal_later ss ts region later j = record {
         life = t.life;
         id = t.id;
         made = t.made;
+        small = t.small;
         lives_at = t.lives_at;
         tag = t.tag;
-        own = at.id ∙ t.own;
+        own = at.id t.id t.own;
         memory = ap (λ fs. slice_get fs t.made) at.frames ∙ in_front (get_or ss t.life.handle no_share).frames at.more t.made t.life.memory t.memory;
       });
 }
@@ -259,3 +260,11 @@ shares_lift w u rows n h v first second script others own =
         by_place (inl one) (inl two) = here one two
         by_place (inr differs) two = apart (λ both. differs both.0)
         by_place (inl one) (inr differs) = apart (λ both. differs both.1)
+
+-- where each handle's share is a later one, they all are
+pub shares_later : (w u : WorldState) (rows rows' : List (List Inner)) → IsDriver w.script w.guest → IsDriver w.script u.guest → ((n h : ℕ) → IsHandle u n h → LaterShare (share_at w rows n h) (share_at u rows' n h)) →
+    AreLater (all_shares w rows 0 w.guest.processes) (all_shares u rows' 0 u.guest.processes)
+shares_later w u rows rows' first second each =
+    let none : (i : ℕ) → i ≡ 0 + i = λ i. omega arith in
+    later_in w u rows rows' each (longs_stay w.script w u first second) 0 w.guest.processes u.guest.processes (let a = first.count in let b = second.count in omega (arith, a, b))
+    (λ i p is. subst (λ k. slice_get w.guest.processes k ≡ Some p) (none i) is) (λ i p is. subst (λ k. slice_get u.guest.processes k ≡ Some p) (none i) is)

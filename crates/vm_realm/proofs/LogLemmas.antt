@@ -1,13 +1,11 @@
 -- A message that is delivered brings no lease back and takes none out.
-use Rattle.std.proofs.Common.{◌≡◌, ℕ, ◌≤◌, ◌+◌, List, [], ◌∷◌, Option, Some, None, refl, sym, ap, ◌∙◌, subst, arith}
+use Rattle.std.proofs.Common.{◌≡◌, ℕ, ◌≤◌, List, [], ◌∷◌, Option, Some, None, refl, ap, ◌∙◌, arith}
 use Rattle.v4l_const.specs.declared.errno.Errno.{Errno}
 use Rattle.v4l_rules.specs.Refusals.{first_refusal}
 use Rattle.vm_frame.specs.declared.mem.Held.{Held}
-use Rattle.vm_lease.specs.declared.lease_out.LeaseOut.{LeaseOut}
 use Rattle.vm_local.specs.declared.call.Call.{Call}
 use Rattle.vm_local.specs.declared.entry.Entry.{Entry}
 use Rattle.vm_log.specs.LegalLog.{LogState, lease_in, with_entry, state_of}
-use Rattle.vm_log.specs.declared.away.Away.{Away}
 use Rattle.vm_log.specs.declared.away.Away.TheVariants.{Nothing}
 use Rattle.vm_wire.specs.declared.event.EventMsg.{EventMsg}
 use Rattle.vm_exchange.specs.Messages.{made_by}

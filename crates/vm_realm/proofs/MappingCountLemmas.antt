@@ -1,10 +1,9 @@
 -- The journal tells of fewer mappings than a script may have lines, where one of them is still on its way to the device.
-use Rattle.std.proofs.Common.{◌≡◌, ◌⊎◌, ℕ, zero, suc, ◌+◌, ◌*◌, ◌<◌, ◌≤◌, Bool, true, false, List, [], ◌∷◌, ◌++◌, Option, Some, None, length, take, map, set, is_some, refl, sym, ap, ◌∙◌, subst, arith, inl, inr, eqb, cond, if◌then◌else◌, length-append}
+use Rattle.std.proofs.Common.{◌≡◌, ◌⊎◌, ℕ, zero, suc, ◌+◌, ◌*◌, ◌<◌, ◌≤◌, Bool, true, false, List, [], ◌∷◌, ◌++◌, Option, Some, None, length, take, map, set, is_some, refl, sym, ap, ◌∙◌, subst, arith, inl, inr, eqb, if◌then◌else◌, length-append}
 use Rattle.std.specs.Prelude.{slice_get, unwrap_or}
 use Rattle.std.specs.List.{All}
 use Rattle.std.specs.Option.{option_and_then, option_to_list}
-use Rattle.std.proofs.lemmas.Bool.{false≢true, cases_Bool, cases_eq, cond-true, cond-false, eq-eqb, ne_eqb, eqb-true}
-use Rattle.std.proofs.lemmas.List.{append-nil, length-take-le, length-map}
+use Rattle.std.proofs.lemmas.Bool.{false≢true, cases_eq, cond-true, cond-false, eq-eqb, ne_eqb}
 use Rattle.std.proofs.lemmas.List.Elements.{All-head, All-tail, All-get_or}
 use Rattle.std.proofs.lemmas.Option.{none-some, same_Some, option_and_then_some, slice_get_within}
 use Rattle.v4l_const.specs.declared.model.Model.{Model}
@@ -20,15 +19,14 @@ use Rattle.vm_region.specs.declared.entry.RegionEntry.{RegionEntry}
 use Rattle.vm_region.specs.declared.entry.RegionEntry.TheVariants.{Map, Drop}
 use Rattle.vm_region.specs.Region.{map_count}
 use Rattle.vm_script.specs.Lines.{call_on, numbered, lines_of, calls_of}
-use Rattle.vm_script.specs.Script.{ProcessLines}
 use Rattle.vm_script.specs.declared.line.Line.{Line}
 use Rattle.vm_script.specs.declared.line.LineKind.{LineKind}
 use Rattle.vm_script.specs.declared.line.LineKind.TheVariants.{OnHandle, Raw}
 use Rattle.vm_wire.specs.Message.{Posting, Returning}
 use Rattle.vm_handle.specs.Handle.{HandleState}
 use Rattle.vm_guest.specs.Asking.{statement_of, statements_of, asked_by, asked_in}
-use Rattle.vm_guest.specs.Guest.{no_process, process_at, handle_named}
-use Rattle.vm_guest.specs.Orderly.{IsOrderly, IsFitProcess, AnswersLines, lines_at, no_lines}
+use Rattle.vm_guest.specs.Guest.{process_at, handle_named}
+use Rattle.vm_guest.specs.Orderly.{IsOrderly, IsFitProcess, lines_at, no_lines}
 use Rattle.vm_guest.specs.Process.{ProcessState, begun, is_at_rest as rests, is_crossing, current, current_call, crossing_call, some_if, handle_at}
 use Rattle.vm_guest.specs.declared.asked.Asked.{Asked as AskedCall}
 use Rattle.vm_guest.specs.declared.asked.Statement.{Statement}
@@ -36,12 +34,12 @@ use Rattle.vm_guest.specs.declared.status.Status.{Status}
 use Rattle.vm_guest.specs.declared.status.Status.TheVariants.{AtRest, Crossing, Blocked, Lent}
 use Rattle.vm_realm.specs.World.{WorldState}
 use Rattle.vm_realm.specs.Inner.{Inner}
-use Rattle.vm_realm.specs.Mapped.{Mapping as Telling, Life, IsDealt, DealsFrom, lives_after, mapping_by, mapping_at, mappings_from, mappings_of, Share}
+use Rattle.vm_realm.specs.Mapped.{Mapping as Telling, Life, IsDealt, DealsFrom, lives_after, mapping_by, mappings_from, mappings_of, Share}
 use Rattle.vm_realm.specs.Mapped.Mapping.{Made, GivenBack}
-use Rattle.vm_realm.specs.Slice.{Slice, Out, is_on, out_of, out_at, slice_at}
+use Rattle.vm_realm.specs.Slice.{Out, is_on, out_of, out_at, slice_at}
 use Rattle.vm_realm.specs.Slice.Out.{Nowhere, Asked, Kept, Told, Astray}
-use Rattle.vm_realm.specs.Sound.{IsTold, IsOut, IsSoundSlice, IsSoundBy, IsHandle, id_at, inner_at, one_if, share_of, shares_from, all_shares}
-use Rattle.vm_realm.proofs.ShareLemmas.{IsThere, named_there, is_there, share_at, log_model}
+use Rattle.vm_realm.specs.Sound.{IsOut, IsSoundBy, IsHandle, id_at, inner_at, one_if, share_of, shares_from, all_shares}
+use Rattle.vm_realm.proofs.ShareLemmas.{IsThere, named_there, is_there, share_at}
 
 -- ---- mappings that are told
 

@@ -1,16 +1,14 @@
 -- The steps of a session's frames move the slice of its handle.
-use Rattle.std.proofs.Common.{◌≡◌, ℕ, zero, suc, ◌+◌, ◌-◌, ◌<◌, ◌≤◌, Bool, true, false, not, List, [], ◌∷◌, ◌++◌, Option, Some, None, is_some, length, get_or, set, map, refl, sym, ap, ◌∙◌, subst, arith, inl, inr, eqb, cond, if◌then◌else◌}
-use Rattle.std.specs.Prelude.{◌&&◌, IsTrue}
-use Rattle.std.specs.List.{All, Contains, filter, find, list_all}
+use Rattle.std.proofs.Common.{◌≡◌, ℕ, zero, suc, ◌-◌, ◌≤◌, Bool, true, false, not, List, [], ◌∷◌, ◌++◌, Option, Some, None, is_some, length, map, refl, sym, ap, ◌∙◌, subst, arith, inl, inr, eqb, if◌then◌else◌}
+use Rattle.std.specs.List.{Contains, filter, find, list_all}
 use Rattle.std.specs.Option.{option_map, option_to_list}
-use Rattle.std.proofs.lemmas.Bool.{false≢true, true≢false, cases_Bool, and_parts, cond-true, cond-false, eq-eqb, eqb-true}
+use Rattle.std.proofs.lemmas.Bool.{false≢true, cases_Bool, and_parts, cond-true, cond-false, eq-eqb, eqb-true}
 use Rattle.std.proofs.lemmas.List.{length-map}
 use Rattle.std.proofs.lemmas.List.Elements.{All-contains, All-contains_itself, All-filter, filter_passes}
 use Rattle.std.proofs.lemmas.Option.{none-some, same_Some}
-use Rattle.vm_frame.specs.declared.mem.Held.{Held}
 use Rattle.vm_mem.specs.Lists.{first_of}
 use Rattle.vm_job.specs.Entry.{IsOf, parts_of}
-use Rattle.vm_job.specs.Job.{JobParts, DoneParts, CameBack, HasPicture}
+use Rattle.vm_job.specs.Job.{JobParts, DoneParts}
 use Rattle.vm_job.specs.declared.job_out.JobOut.{JobOut}
 use Rattle.vm_job.specs.declared.spec.JobSpec.{JobSpec}
 use Rattle.vm_wire.specs.Message.{Posting, Returning}
@@ -18,28 +16,27 @@ use Rattle.vm_wire.specs.declared.delivery.Delivery.{Delivery}
 use Rattle.vm_session.specs.declared.running.Running.{Running}
 use Rattle.vm_session.specs.State.{SessionState}
 use Rattle.vm_session.specs.Streaming.{is_ready as queue_ready, can_begin as session_can_begin, next_dst, next_src, next_spec, next_job, job_with, begun, finished, oldest, sent}
-use Rattle.vm_device.specs.Device.{DeviceState, session_of, is_ready}
+use Rattle.vm_device.specs.Device.{session_of, is_ready}
 use Rattle.vm_device.specs.Keeps.{specs_for, specs_in}
-use Rattle.vm_device.specs.Stream.{Begins, with_job, outstanding, with_done, Finishes, with_sent, Sends}
-use Rattle.vm_host.specs.Part.{Part, Call as WaitingCall, call_for, AnnouncedTo, Announced}
-use Rattle.vm_guest.specs.Process.{crossing_call, handle_at}
+use Rattle.vm_device.specs.Stream.{with_job, with_done, with_sent, Sends}
+use Rattle.vm_host.specs.Part.{Part, Call as WaitingCall, AnnouncedTo}
+use Rattle.vm_guest.specs.Process.{crossing_call}
 use Rattle.vm_guest.specs.Guest.{process_at}
 use Rattle.vm_guest.specs.declared.asked.Asked.{Asked as AskedCall}
-use Rattle.vm_realm.specs.declared.step.Step.{Step}
 use Rattle.vm_realm.specs.declared.step.Step.TheVariants.{Begin, Finish, Announce}
-use Rattle.vm_realm.specs.World.{WorldState, jobs_out}
+use Rattle.vm_realm.specs.World.{WorldState}
 use Rattle.vm_realm.specs.Enabled.{waits, can_begin}
 use Rattle.vm_realm.specs.Inner.{Inner}
-use Rattle.vm_realm.specs.Steps.{with_device, job_out, ComesBack, DoesBegin, DoesFinishWith, DoesFinish, DoesAnnounce}
+use Rattle.vm_realm.specs.Steps.{with_device, ComesBack, DoesBegin, DoesFinish, DoesAnnounce}
 use Rattle.vm_realm.specs.Slice.{Slice, Out, session_in, job_in, events_for, requests_of, calls_of, replies_of, out_from, out_of, is_on, out_at, slice_at}
 use Rattle.vm_realm.specs.Slice.Out.{Nowhere, Asked, Kept, Told, Astray}
-use Rattle.vm_realm.specs.SliceSteps.{is_kept_waiting, SliceDoes, MovesOne}
+use Rattle.vm_realm.specs.SliceSteps.{is_kept_waiting, MovesOne}
 use Rattle.vm_realm.specs.Sound.{IsKept, IsOut, IsSoundSlice, IsSoundBy, IsHandle, id_at, inner_at, spec_running}
 use Rattle.vm_realm.proofs.ListLemmas.{in_front, contains_map, contains_filter, finds_in}
 use Rattle.vm_realm.proofs.DeviceLemmas.{session_there}
 use Rattle.vm_realm.proofs.PartLemmas.{find_in, some_of}
 use Rattle.vm_realm.proofs.FramesLemmas.{SeatedAt, seated_at}
-use Rattle.vm_realm.proofs.FrameLemmas.{SameParts, same_slice, other_behind, own_behind, other_session, own_session, other_begun, own_begun, other_done, own_done, has_handle}
+use Rattle.vm_realm.proofs.FrameLemmas.{same_slice, other_behind, own_behind, other_session, own_session, other_begun, own_begun, other_done, own_done, has_handle}
 
 -- no other handle has the session's id
 apart : (w : WorldState) (rows : List (List Inner)) (k : ℕ) (s : SessionState) (at : SeatedAt w k s) (n h : ℕ) → IsSoundBy w rows → ¬ ((n ≡ at.process) × (h ≡ at.handle)) → ¬ (id_at w n h ≡ Some k)
@@ -178,7 +175,7 @@ job_session s number job is =
     let from : _ = some_of (job_with (next_spec s number) (next_src s)) (next_dst s) job is in
     ap (λ (x : JobParts). x.spec.session) (sym from.2)
 
-entry_parts : (e : JobOut) (job : JobParts) → IsOf e job → parts_of e ≡ job
+pub entry_parts : (e : JobOut) (job : JobParts) → IsOf e job → parts_of e ≡ job
 entry_parts e job of = λ j. record { spec = of.0 j; src = of.1 j; dst = of.2 j }
 
 begun_moves : (w : WorldState) (rows : List (List Inner)) (k : ℕ) (s : SessionState) (job : JobParts) (e : JobOut) → IsSoundBy w rows → session_of w.host.device k ≡ Some s → waits w.host k ≡ false →
@@ -259,7 +256,7 @@ one_spec (Some s) = one_at_most (option_map (λ r. r.spec) s.running)
     one_at_most (Some x) = omega arith
 
 -- the job that is out is the one of its session
-job_of : (w : WorldState) (rows : List (List Inner)) (e : JobOut) (k : ℕ) → IsSoundBy w rows → Contains w.host.device.jobs e → e.spec.session ≡ k → job_in w.host.device.jobs (Some k) ≡ Some (parts_of e)
+pub job_of : (w : WorldState) (rows : List (List Inner)) (e : JobOut) (k : ℕ) → IsSoundBy w rows → Contains w.host.device.jobs e → e.spec.session ≡ k → job_in w.host.device.jobs (Some k) ≡ Some (parts_of e)
 job_of w rows e k sound there own =
     let p : JobOut → Bool = λ x. eqb x.spec.session k in
     let mine : Contains (filter p w.host.device.jobs) e = contains_filter p w.host.device.jobs e (eq-eqb e.spec.session k own) there in

@@ -1,7 +1,7 @@
 -- How many names of a handle are bound to the range at an address: no more than its log mapped there and didn't give back.
-use Rattle.std.proofs.Common.{◌≡◌, ◌⊎◌, ℕ, zero, suc, ◌+◌, ◌<◌, ◌≤◌, Bool, true, false, not, List, [], ◌∷◌, ◌++◌, Option, Some, None, length, refl, sym, ap, ◌∙◌, subst, arith, inl, inr, eqb, cond, if◌then◌else◌}
+use Rattle.std.proofs.Common.{◌≡◌, ◌⊎◌, ℕ, zero, suc, ◌+◌, ◌≤◌, Bool, true, false, not, List, [], ◌∷◌, ◌++◌, Option, Some, None, length, refl, sym, ap, ◌∙◌, subst, arith, inl, inr, eqb, cond, if◌then◌else◌}
 use Rattle.std.specs.Prelude.{◌&&◌, unwrap_or, bytes_eq}
-use Rattle.std.specs.List.{filter, find, Contains}
+use Rattle.std.specs.List.{filter, Contains}
 use Rattle.std.specs.Option.{option_and_then}
 use Rattle.std.proofs.lemmas.Bool.{false≢true, not-false, cond-true, eq-eqb, eqb-true, and_parts}
 use Rattle.std.proofs.lemmas.Option.{none-some}
@@ -17,13 +17,13 @@ use Rattle.vm_local.specs.declared.entry.Entry.TheVariants.{Called, Finish, Bad,
 use Rattle.vm_local.specs.declared.owed.OwedItem.{OwedItem}
 use Rattle.vm_local.specs.declared.owed.OwedItem.TheVariants.{Buffer as OwedBuffer, Sync}
 use Rattle.vm_local.specs.declared.reply.Reply.{Reply}
-use Rattle.vm_local.specs.declared.reply.Reply.TheVariants.{Done, Refused, Caps, Code, Format, InputName, InputIs, Count, Buf, Pages, Frame, Mapped, Bytes, Digest, Event}
+use Rattle.vm_local.specs.declared.reply.Reply.TheVariants.{Done, Refused, Mapped}
 use Rattle.vm_local.specs.State.{LocalState, queue_of, buffer_of}
 use Rattle.vm_local.specs.Kinds.{is_mapping_kind}
 use Rattle.vm_local.specs.Memory.{named_in, named, is_mapping, without_name, pages_of}
 use Rattle.vm_local.specs.Queue.{with_buffers}
-use Rattle.vm_local.specs.Same.{address_in, same_reply}
-use Rattle.vm_local.specs.Calls.{Row, row_of, querycap_row, enumfmt_row, gfmt_row, tryfmt_row, sfmt_row, enuminput_row, ginput_row, sinput_row, reqbufs_row, querybuf_row, ualloc_row, qbuf_row, streamon_row, streamoff_row, dqbuf_row, mmap_row, munmap_row, read_row, hash_row, write_row, fill_row, subscribe_row, unsubscribe_row, dqevent_row}
+use Rattle.vm_local.specs.Same.{address_in}
+use Rattle.vm_local.specs.Calls.{row_of, querycap_row, enumfmt_row, gfmt_row, tryfmt_row, sfmt_row, enuminput_row, ginput_row, sinput_row, reqbufs_row, querybuf_row, ualloc_row, qbuf_row, streamon_row, streamoff_row, dqbuf_row, mmap_row, munmap_row, read_row, hash_row, write_row, fill_row, subscribe_row, unsubscribe_row, dqevent_row}
 use Rattle.vm_local.specs.Steps.{counted, item_given}
 use Rattle.vm_local.specs.Log.{row_for, called, after, replay_from}
 use Rattle.vm_local.proofs.StepLemmas.{passes, answered_by, done_by, Went, finished_by, failed_by, given_by}

@@ -1,16 +1,14 @@
 -- Before the first line of a script: what is left.
-use Rattle.std.proofs.Common.{◌≡◌, ℕ, zero, suc, ◌+◌, ◌<◌, ◌≤◌, ◌*◌, List, [], ◌∷◌, Option, Some, None, length, get_or, refl, sym, ap, ◌∙◌, subst, arith, sum_by}
+use Rattle.std.proofs.Common.{◌≡◌, ℕ, suc, ◌<◌, ◌≤◌, ◌*◌, List, [], ◌∷◌, Option, None, length, get_or, refl, ap, ◌∙◌, arith, sum_by}
 use Rattle.std.proofs.lemmas.List.{length-map}
 use Rattle.std.specs.List.{filter_map}
 use Rattle.v4l_const.specs.declared.model.Model.{Model}
-use Rattle.vm_session.specs.State.{SessionState}
 use Rattle.vm_script.specs.Script.{ProcessLines, ScriptLines}
 use Rattle.vm_guest.specs.Asking.{statement_of}
 use Rattle.vm_guest.specs.Guest.{no_process, process_at}
-use Rattle.vm_guest.specs.Orderly.{IsFresh, IsFreshGuest, lines_at, no_lines}
-use Rattle.vm_guest.specs.Process.{ProcessState, begun, is_at_rest, is_lent, lease_out, some_if}
+use Rattle.vm_guest.specs.Orderly.{IsFresh, lines_at, no_lines}
+use Rattle.vm_guest.specs.Process.{ProcessState, begun, lease_out}
 use Rattle.vm_guest.specs.declared.status.Status.{Status}
-use Rattle.vm_guest.specs.declared.status.Status.TheVariants.{AtRest}
 use Rattle.vm_realm.specs.World.{WorldState, IsOpening, leases_out, statement_count}
 use Rattle.vm_realm.specs.Left.{unbegun, request_weight, queued_in, left_of}
 use Rattle.vm_realm.proofs.ListLemmas.{sums_alike}

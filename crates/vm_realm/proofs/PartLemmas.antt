@@ -1,13 +1,11 @@
 -- Each step of the device lowers what is left, where a call that waits queues nothing and a job that comes back has two messages at most.
-use Rattle.std.proofs.Common.{◌≡◌, ℕ, zero, suc, ◌+◌, ◌*◌, ◌-◌, ◌<◌, ◌≤◌, Bool, true, false, not, List, [], ◌∷◌, ◌++◌, Option, Some, None, Ok, Err, is_some, length, get_or, set, refl, sym, ap, ◌∙◌, subst, arith, inl, inr, cond, eqb, length-append, if◌then◌else◌}
-use Rattle.std.specs.Prelude.{sum_by, nat_lt, replicate, map}
-use Rattle.std.specs.List.{filter, find, Contains, list_all}
+use Rattle.std.proofs.Common.{◌≡◌, ℕ, zero, suc, ◌+◌, ◌*◌, ◌≤◌, Bool, true, false, not, List, [], ◌∷◌, Option, Some, None, Ok, Err, length, refl, sym, ap, ◌∙◌, subst, arith, inl, inr, cond, eqb, length-append, if◌then◌else◌}
+use Rattle.std.specs.Prelude.{nat_lt, replicate}
+use Rattle.std.specs.List.{filter, find, Contains}
 use Rattle.std.specs.Option.{option_to_list, option_map}
-use Rattle.std.proofs.lemmas.Bool.{false≢true, cases_lt, cond-true, cond-false, cond_both, eq-eqb, eqb-true}
+use Rattle.std.proofs.lemmas.Bool.{false≢true, cases_lt, cond-false, eq-eqb, eqb-true}
 use Rattle.std.proofs.lemmas.List.{length-replicate, length_push}
-use Rattle.std.proofs.lemmas.List.Sums.{sum_by-cons}
 use Rattle.std.proofs.lemmas.Option.{none-some, same_Some}
-use Rattle.v4l_const.specs.declared.ioctl_code.IoctlCode.{IoctlCode}
 use Rattle.v4l_const.specs.declared.ioctl_code.IoctlCode.TheVariants.{QBuf}
 use Rattle.v4l_const.specs.declared.model.Model.{Model}
 use Rattle.v4l_const.specs.Model.{picture_queue}
@@ -21,16 +19,16 @@ use Rattle.vm_wire.specs.Message.Ask.{Unusable, Judged}
 use Rattle.vm_wire.specs.declared.command.Command.{Command}
 use Rattle.vm_wire.specs.declared.command.Command.TheVariants.{OpenSession, CloseSession, Ioctl, Map, Unmap}
 use Rattle.vm_wire.specs.declared.delivery.Delivery.{Delivery}
-use Rattle.vm_session.specs.State.{SessionQueue, SessionState, queue_kind, pictures}
-use Rattle.vm_session.specs.Streaming.{can_begin, next_dst, next_spec, next_src, next_job, job_with, begun, finished, sent, oldest}
-use Rattle.vm_device.specs.Device.{DeviceState, session_of, with_session, is_ready, is_at_rest}
-use Rattle.vm_device.specs.Perform.{Answer, Performs, must_wait}
-use Rattle.vm_device.specs.Stream.{Begins, BeginsJob, with_job, outstanding, events_more, with_done, Finishes, with_sent, Sends}
+use Rattle.vm_session.specs.State.{SessionQueue, SessionState, queue_kind}
+use Rattle.vm_session.specs.Streaming.{can_begin, next_spec, next_src, next_job, job_with, begun, finished, sent}
+use Rattle.vm_device.specs.Device.{DeviceState, session_of, with_session, is_ready}
+use Rattle.vm_device.specs.Perform.{must_wait}
+use Rattle.vm_device.specs.Stream.{Begins, events_more, Finishes, Sends}
 use Rattle.vm_host.specs.Part.{Part, Call, call_for, Completed, ExecutedCommand, ExecutedAsk, Executed, ResumedCall, Resumed, AnnouncedTo, Announced}
-use Rattle.vm_host.specs.Waiting.{put_in, found, taken_out}
+use Rattle.vm_host.specs.Waiting.{put_in, taken_out}
 use Rattle.vm_realm.specs.Left.{command_weight, request_weight}
 use Rattle.vm_realm.proofs.ListLemmas.{in_front, behind_first}
-use Rattle.vm_realm.proofs.QueuedLemmas.{queued, begun_falls, finished_same, sent_few}
+use Rattle.vm_realm.proofs.QueuedLemmas.{begun_falls, finished_same, sent_few}
 use Rattle.vm_realm.proofs.DeviceLemmas.{all_queued, Adds, brings, performs_adds, session_few, session_changes}
 
 -- what is left in the device

@@ -43,12 +43,12 @@ mapped_from f (x ∷ xs) y (suc k, within, is) =
 abbrev pub at : Spot → ℕ → Lies
 at spot m = record { spot = spot; number = m }
 
-number_there : (spot : Spot) (ns : List ℕ) (m : ℕ) → Contains (lie_at spot ns) (at spot m) → Contains ns m
+pub number_there : (spot : Spot) (ns : List ℕ) (m : ℕ) → Contains (lie_at spot ns) (at spot m) → Contains ns m
 number_there spot ns m there =
     let from : _ = mapped_from (at spot) ns (at spot m) there in
     subst (Contains ns) (ap (λ (l : Lies). l.number) from.2) from.1
 
-spot_there : (spot other : Spot) (ns : List ℕ) (m : ℕ) → Contains (lie_at spot ns) (at other m) → spot ≡ other
+pub spot_there : (spot other : Spot) (ns : List ℕ) (m : ℕ) → Contains (lie_at spot ns) (at other m) → spot ≡ other
 spot_there spot other ns m there = ap (λ (l : Lies). l.spot) (mapped_from (at spot) ns (at other m) there).2
 
 -- a spot of the driver's is none of the others
@@ -98,12 +98,12 @@ first_of_all x v mine m apart there =
 
 -- ---- at home
 
-home_marked : (home : List (Option Mem)) (m : ℕ) → is_some (home_of home m) ≡ true → Contains (marked_places (map is_some home)) m
+pub home_marked : (home : List (Option Mem)) (m : ℕ) → is_some (home_of home m) ≡ true → Contains (marked_places (map is_some home)) m
 home_marked home m some =
     let within : m < length home = place_within is_some home m None refl some in
     placed (map is_some home) m (get_or-map is_some home m None false within ∙ some)
 
-marked_home : (home : List (Option Mem)) (m : ℕ) → Contains (marked_places (map is_some home)) m → is_some (home_of home m) ≡ true
+pub marked_home : (home : List (Option Mem)) (m : ℕ) → Contains (marked_places (map is_some home)) m → is_some (home_of home m) ≡ true
 marked_home home m there =
     let fs : List Bool = map is_some home in
     let P : ℕ → Type 0 = λ i. get_or fs i false ≡ true in
@@ -129,7 +129,7 @@ marked_lent s (Sent number) m there = absurd (omega (arith, there.1))
 marked_lent s (Lent entry) m there = eq-eqb (touched s entry.call) m (one_alone (touched s entry.call) m there)
 
 -- no memory is out with a call where none crosses
-sent_none : (session : ℕ) (s : LocalState) (away : Away) (unanswered : Bool) (stage : Stage) → FitsStage session s away unanswered stage → ((line : ℕ) (call : _) → stage ≡ Underway line call → ⊥) → (number : ℕ) → away ≡ Sent number → ⊥
+pub sent_none : (session : ℕ) (s : LocalState) (away : Away) (unanswered : Bool) (stage : Stage) → FitsStage session s away unanswered stage → ((line : ℕ) (call : _) → stage ≡ Underway line call → ⊥) → (number : ℕ) → away ≡ Sent number → ⊥
 sent_none session s away unanswered AtRest fits idle number is = subst (λ a. FitsStage session s a unanswered AtRest) is fits
 sent_none session s away unanswered (Underway line call) fits idle number is = idle line call refl
 sent_none session s away unanswered (Waiting line call) fits idle number is = not_nothing number (sym is ∙ fits.1)
@@ -203,7 +203,7 @@ owners_agree x v sound nowhere m kept =
 
 -- ---- how often it is there
 
-abbrev one_flag : Bool → ℕ
+abbrev pub one_flag : Bool → ℕ
 one_flag true = 1
 one_flag false = 0
 
@@ -241,16 +241,16 @@ one_more : (b : Bool) (k n j : ℕ) → (if b then (k + n) + 1 else (k + n)) ≡
 one_more true k n j = omega arith
 one_more false k n j = refl
 
-joined : (m : ℕ) (xs ys : List ℕ) → occurrences m (xs ++ ys) ≡ occurrences m xs + occurrences m ys
+pub joined : (m : ℕ) (xs ys : List ℕ) → occurrences m (xs ++ ys) ≡ occurrences m xs + occurrences m ys
 joined m [] ys = omega arith
 joined m (x ∷ xs) ys = ap (λ k. if eqb x m then k + 1 else k) (joined m xs ys) ∙ one_more (eqb x m) (occurrences m xs) (occurrences m ys) 0
 
-numbers_at : (spot : Spot) (ns : List ℕ) → map (λ (l : Lies). l.number) (lie_at spot ns) ≡ ns
+pub numbers_at : (spot : Spot) (ns : List ℕ) → map (λ (l : Lies). l.number) (lie_at spot ns) ≡ ns
 numbers_at spot [] = refl
 numbers_at spot (n ∷ ns) = ap (λ ks. n ∷ ks) (numbers_at spot ns)
 
 -- the numbers of the memories that are with the driver
-driver_numbers : (x : Slice) → map (λ (l : Lies). l.number) (with_driver x) ≡ marked_places (map is_some x.handle.log.home) ++ lent_number (driver_state x) x.handle.log.away
+pub driver_numbers : (x : Slice) → map (λ (l : Lies). l.number) (with_driver x) ≡ marked_places (map is_some x.handle.log.home) ++ lent_number (driver_state x) x.handle.log.away
 driver_numbers x =
     let home : List ℕ = marked_places (map is_some x.handle.log.home) in
     let out : List ℕ = lent_number (driver_state x) x.handle.log.away in
@@ -262,18 +262,18 @@ home_flag home m = elim (cases_lt m (length home)) [
   | inr past ↦ get_or_past (map is_some home) m false (omega (arith, past, length-map home is_some)) ∙ sym (ap is_some (get_or_past home m None past))
 ]
 
-lent_zero : (s : LocalState) (away : Away) (m : ℕ) → is_just (number_away s away) m ≡ false → occurrences m (lent_number s away) ≡ 0
+pub lent_zero : (s : LocalState) (away : Away) (m : ℕ) → is_just (number_away s away) m ≡ false → occurrences m (lent_number s away) ≡ 0
 lent_zero s Nothing m just = refl
 lent_zero s (Sent number) m just = refl
 lent_zero s (Lent entry) m just = cond-false (eqb (touched s entry.call) m) (0 + 1) 0 just
 
-lent_one : (s : LocalState) (away : Away) (m : ℕ) → (away ≡ Sent m → ⊥) → is_just (number_away s away) m ≡ true → occurrences m (lent_number s away) ≡ 1
+pub lent_one : (s : LocalState) (away : Away) (m : ℕ) → (away ≡ Sent m → ⊥) → is_just (number_away s away) m ≡ true → occurrences m (lent_number s away) ≡ 1
 lent_one s Nothing m never just = absurd (false≢true just)
 lent_one s (Sent number) m never just = absurd (never (ap Sent (eqb-true number m just)))
 lent_one s (Lent entry) m never just = cond-true (eqb (touched s entry.call) m) (0 + 1) 0 just
 
 -- the count of a memory with the driver, by what is at home of it and what is out
-in_parts : (x : Slice) (m : ℕ) → occurrences m (map (λ (l : Lies). l.number) (with_driver x)) ≡ one_flag (is_some (home_of x.handle.log.home m)) + occurrences m (lent_number (driver_state x) x.handle.log.away)
+pub in_parts : (x : Slice) (m : ℕ) → occurrences m (map (λ (l : Lies). l.number) (with_driver x)) ≡ one_flag (is_some (home_of x.handle.log.home m)) + occurrences m (lent_number (driver_state x) x.handle.log.away)
 in_parts x m =
     let home : List ℕ = marked_places (map is_some x.handle.log.home) in
     let out : List ℕ = lent_number (driver_state x) x.handle.log.away in

@@ -1,19 +1,17 @@
 -- What is left of a process: its lines that weren't begun, and the lease that is out of it.
-use Rattle.std.proofs.Common.{◌≡◌, ℕ, ◌+◌, ◌*◌, ◌-◌, ◌<◌, ◌≤◌, Bool, true, false, not, List, [], ◌∷◌, Option, Some, None, is_some, length, get_or, set, refl, sym, ap, ◌∙◌, subst, arith, inl, inr, if◌then◌else◌}
-use Rattle.std.specs.Prelude.{◌&&◌, sum_by, slice_get}
+use Rattle.std.proofs.Common.{◌≡◌, ℕ, ◌+◌, ◌*◌, ◌-◌, ◌<◌, ◌≤◌, Bool, true, false, List, [], ◌∷◌, Option, Some, None, length, get_or, refl, sym, ap, ◌∙◌, subst, arith, inl, inr}
+use Rattle.std.specs.Prelude.{◌&&◌, sum_by}
 use Rattle.std.specs.List.{filter_map}
 use Rattle.std.proofs.lemmas.Bool.{false≢true, cases_lt, cases_eq, cond_both, cond-false, and_parts, and_left}
-use Rattle.std.proofs.lemmas.List.{set_past, get_or_past, get_or-set_same, get_or-set_other}
+use Rattle.std.proofs.lemmas.List.{set_past, get_or-set_same, get_or-set_other}
 use Rattle.std.proofs.lemmas.List.Sums.{sum_by-cons}
 use Rattle.std.proofs.lemmas.Option.{none-some, cond_some, slice_get_within}
-use Rattle.vm_lease.specs.declared.lease_out.LeaseOut.{LeaseOut}
-use Rattle.vm_log.specs.LegalLog.{lease_in}
 use Rattle.vm_script.specs.declared.line.LineKind.{LineKind}
 use Rattle.vm_wire.specs.declared.delivery.Delivery.{Delivery}
 use Rattle.vm_handle.specs.Answers.{delivered}
 use Rattle.vm_handle.specs.Handle.{HandleState}
 use Rattle.vm_guest.specs.Events.{woken, told}
-use Rattle.vm_guest.specs.Process.{ProcessState, begun, is_at_rest, is_crossing, is_blocked, is_lent, is_answered_in, current, current_call, some_if, kept_by, next, handle_at, with_handle, rested, doing, lease_on, lease_out, no_handle}
+use Rattle.vm_guest.specs.Process.{ProcessState, is_at_rest, is_crossing, is_blocked, is_lent, is_answered_in, current, current_call, some_if, kept_by, next, handle_at, with_handle, rested, lease_on, lease_out, no_handle}
 use Rattle.vm_guest.specs.declared.asked.Asked.{Asked}
 use Rattle.vm_guest.specs.declared.asked.Statement.{Statement}
 use Rattle.vm_guest.specs.declared.status.Status.{Status}

@@ -1,16 +1,14 @@
 -- An event that is taken keeps a world sound.
-use Rattle.std.proofs.Common.{◌≡◌, ◌⊎◌, ℕ, zero, suc, ◌+◌, ◌*◌, ◌<◌, ◌≤◌, Bool, true, false, not, List, [], ◌∷◌, ◌++◌, Option, Some, None, length, get_or, is_some, map, refl, sym, ap, ◌∙◌, subst, arith, inl, inr, eqb, cond, if◌then◌else◌, append_assoc}
+use Rattle.std.proofs.Common.{◌≡◌, ◌⊎◌, ℕ, ◌+◌, ◌*◌, ◌<◌, Bool, true, false, List, [], ◌∷◌, ◌++◌, Option, Some, None, length, get_or, map, refl, sym, ap, ◌∙◌, subst, arith, inl, inr, if◌then◌else◌, append_assoc}
 use Rattle.std.specs.Prelude.{◌&&◌, slice_get, IsSome, unwrap_or}
-use Rattle.std.specs.List.{All, filter}
+use Rattle.std.specs.List.{All}
 use Rattle.std.specs.Option.{option_and_then, option_to_list}
-use Rattle.std.proofs.lemmas.Bool.{false≢true, true≢false, cases_Bool, cases_eq, cases_lt, cond_both, not-false, and_parts}
+use Rattle.std.proofs.lemmas.Bool.{false≢true, cases_eq, cond_both, not-false, and_parts}
 use Rattle.std.proofs.lemmas.List.{append-nil, get_or-set_same, get_or-set_other, length-set}
 use Rattle.std.proofs.lemmas.List.Elements.{All-tail, All-head, All-push}
-use Rattle.std.proofs.lemmas.Option.{none-some, same_Some, slice_get_within}
 use Rattle.v4l_const.specs.declared.errno.Errno.{Errno}
 use Rattle.v4l_const.specs.declared.model.Model.{Model}
 use Rattle.v4l_const.specs.Model.{source_queue}
-use Rattle.v4l_layout.specs.declared.buffer_rec.BufferRec.{BufferRec}
 use Rattle.v4l_rules.specs.Refusals.{first_refusal}
 use Rattle.vm_frame.specs.declared.mem.Held.{Held}
 use Rattle.vm_home.specs.Moves.{is_stopping}
@@ -25,15 +23,13 @@ use Rattle.vm_local.specs.Log.{after}
 use Rattle.vm_log.specs.LegalLog.{LogState, state_of, with_entry}
 use Rattle.vm_script.specs.declared.line.LineKind.TheVariants.{Raw}
 use Rattle.vm_script.specs.declared.line.RawChain.{RawChain}
-use Rattle.vm_wire.specs.Message.{Posting, Returning}
 use Rattle.vm_wire.specs.declared.delivery.Delivery.{Delivery}
 use Rattle.vm_wire.specs.declared.event.EventMsg.{EventMsg}
 use Rattle.vm_wire.specs.declared.event.EventMsg.TheVariants.{Dequeued, Happened}
-use Rattle.vm_exchange.specs.Exchange.{way_of}
 use Rattle.vm_exchange.specs.Messages.{is_marked, is_first, frame_step, made_by}
 use Rattle.vm_exchange.specs.declared.way.Way.{Way}
 use Rattle.vm_exchange.specs.declared.way.Way.TheVariants.{Crosses, AnsweredHere, Waits, TouchesMemory}
-use Rattle.vm_handle.specs.Answers.{row_from, answered_by, answered_here, answered_at, awoken, with_steps, with_given, delivered}
+use Rattle.vm_handle.specs.Answers.{row_from, answered_by, answered_at, awoken, with_steps, with_given, delivered}
 use Rattle.vm_handle.specs.Handle.{HandleState, Keeps, FitsStage, way_from, id_of, is_dqbuf}
 use Rattle.vm_handle.specs.Messages.{Delivers}
 use Rattle.vm_handle.specs.declared.stage.Stage.{Stage}
@@ -42,15 +38,13 @@ use Rattle.vm_handle.proofs.StageLemmas.{waits_only}
 use Rattle.vm_pump.specs.Pump.{handle_room}
 use Rattle.vm_session.specs.State.{SessionState}
 use Rattle.vm_device.specs.Device.{session_of}
-use Rattle.vm_session.specs.declared.unsent.Unsent.{Unsent}
-use Rattle.vm_stands.specs.Flight.{Leads as LeadsTo, LeadAll}
+use Rattle.vm_stands.specs.Flight.{LeadAll}
 use Rattle.vm_guest.specs.Asking.{asked_by, asked_in}
-use Rattle.vm_guest.specs.Events.{woken, told, told_at, given, held_back, holds_back as guest_holds, taken, taken_at, all_told, CanTell}
-use Rattle.vm_guest.specs.Guest.{GuestState, no_process, process_in, process_at, handle_seated, seat_of, raw_answer}
-use Rattle.vm_guest.specs.Orderly.{IsDriver, IsOrderly, IsSeat, MayBeRaw, lines_at}
-use Rattle.vm_guest.specs.Part.{Inbox, Outbox, PumpsFrom, Pumps}
+use Rattle.vm_guest.specs.Events.{told, given, held_back, holds_back as guest_holds, taken, taken_at, CanTell}
+use Rattle.vm_guest.specs.Guest.{GuestState, no_process, process_at, seat_of}
+use Rattle.vm_guest.specs.Orderly.{IsDriver, IsOrderly, MayBeRaw, lines_at}
+use Rattle.vm_guest.specs.Part.{Inbox, Outbox, PumpsFrom}
 use Rattle.vm_guest.specs.Process.{ProcessState, is_crossing, is_blocked, is_answered_in, current, current_call, crossing, some_if, handle_at, with_handle, rested}
-use Rattle.vm_guest.specs.Raw.{raw_errno}
 use Rattle.vm_guest.specs.declared.seat.Seat.{Seat}
 use Rattle.vm_guest.specs.declared.asked.Statement.{Statement}
 use Rattle.vm_guest.specs.declared.status.Status.{Status}
@@ -62,12 +56,12 @@ use Rattle.vm_realm.specs.Inner.{Inner, driver_state, under_way, unsent_in}
 use Rattle.vm_realm.specs.Left.{left_of}
 use Rattle.vm_realm.specs.Steps.{Steps, inbox_of, after_driver}
 use Rattle.vm_realm.specs.Laws.{GoesOnSoundly}
-use Rattle.vm_realm.specs.Mapped.{Mapping as Telling, mapping_by, mapping_at, mappings_from, mappings_of, Share, IsJournalOf}
+use Rattle.vm_realm.specs.Mapped.{mapping_by, mapping_at, mappings_from, mappings_of}
 use Rattle.vm_realm.specs.Places.{told_state}
-use Rattle.vm_realm.specs.Slice.{Slice, Out, id_ahead, events_for, is_on, out_of, out_at, slice_at, SameElsewhere, unsent_by}
+use Rattle.vm_realm.specs.Slice.{Slice, Out, id_ahead, events_for, out_at, slice_at, unsent_by}
 use Rattle.vm_realm.specs.Slice.Out.{Nowhere, Asked, Kept, Told, Astray}
 use Rattle.vm_realm.specs.SliceSteps.{holds_back, taken as slice_taken, Takes, MovesOne}
-use Rattle.vm_realm.specs.Sound.{IsOut, IsSoundSlice, IsRawOut, IsLineOut, AnswersRaws, IsQuiet, AgreeOnIds, IsSaid, AreOfHandles, WaitInOwn, HoldsFew, MadeWithin, IsWithin, IsSoundBy, IsSound, IsHandle, id_at, inner_at, out_count, one_if, share_of, all_shares}
+use Rattle.vm_realm.specs.Sound.{IsOut, IsSoundSlice, IsLineOut, AreOfHandles, HoldsFew, MadeWithin, IsSoundBy, IsSound, IsHandle, id_at, inner_at, one_if, share_of, all_shares}
 use Rattle.vm_realm.proofs.SumLemmas.{place_within}
 use Rattle.vm_realm.proofs.FrameLemmas.{has_handle, handle_there, own_first}
 use Rattle.vm_realm.proofs.LeftLemmas.{left_falls}
@@ -98,14 +92,14 @@ no_both (e ∷ es) fs first rest = (first.0, no_both es fs first.1 rest)
 abbrev pub Silent : LogState → LogState → Type 0
 Silent l l' = (more : List Entry) × (l'.entries ≡ l.entries ++ more) × NoTell more
 
-silent_same : (l : LogState) → Silent l l
+pub silent_same : (l : LogState) → Silent l l
 silent_same l = ([], sym (append-nil l.entries), tt)
 
-silent_then : (l m n : LogState) → Silent l m → Silent m n → Silent l n
+pub silent_then : (l m n : LogState) → Silent l m → Silent m n → Silent l n
 silent_then l m n (first, is, none) (rest, then_is, more) =
     (first ++ rest, then_is ∙ (ap (λ es. es ++ rest) is ∙ append_assoc l.entries first rest), no_both first rest none more)
 
-steps_silent : (l : LogState) (es : List Entry) → NoTell es → Silent l (with_steps l es)
+pub steps_silent : (l : LogState) (es : List Entry) → NoTell es → Silent l (with_steps l es)
 steps_silent l [] none = silent_same l
 steps_silent l (e ∷ es) none = silent_then l (with_entry l e l.home) (with_steps (with_entry l e l.home) es) (e ∷ [], refl, (none.0, tt)) (steps_silent (with_entry l e l.home) es none.1)
 
@@ -113,7 +107,7 @@ frame_tells : (b : Bool) (s : LocalState) → mapping_at s (if b then Bad else F
 frame_tells true s = refl
 frame_tells false s = refl
 
-made_tells : (m : Model) (msg : EventMsg) → NoTell (made_by m msg)
+pub made_tells : (m : Model) (msg : EventMsg) → NoTell (made_by m msg)
 made_tells m (Happened session event) = (λ s. refl, tt)
 made_tells m (Dequeued session b) = by_first (is_first (source_queue m) m b)
   where
@@ -121,7 +115,7 @@ made_tells m (Dequeued session b) = by_first (is_first (source_queue m) m b)
     by_first true = (frame_tells (is_marked m b), tt)
     by_first false = tt
 
-given_silent : (l : LogState) (held : Option Held) → Silent l (with_given l held)
+pub given_silent : (l : LogState) (held : Option Held) → Silent l (with_given l held)
 given_silent l None = (Give ∷ [], refl, (λ s. refl, tt))
 given_silent l (Some held) = (Give ∷ [], refl, (λ s. refl, tt))
 
@@ -139,7 +133,7 @@ at_silent (Crosses c) h line call is = silent_same h.log
 at_silent Waits h line call is = silent_same h.log
 at_silent TouchesMemory h line call is = silent_same h.log
 
-awoken_silent : (stage : Stage) (h : HandleState) → ((line : ℕ) (call : Call) → stage ≡ Waiting line call → is_dqbuf call ≡ true) → Silent h.log (awoken stage h).log
+pub awoken_silent : (stage : Stage) (h : HandleState) → ((line : ℕ) (call : Call) → stage ≡ Waiting line call → is_dqbuf call ≡ true) → Silent h.log (awoken stage h).log
 awoken_silent Resting h waits = silent_same h.log
 awoken_silent (Underway line call) h waits = silent_same h.log
 awoken_silent (Waiting line call) h waits = at_silent (way_from h call) h line call (waits line call refl)
@@ -150,7 +144,7 @@ waits_dqbuf h line call keeps is =
     subst (λ t. FitsStage (id_of h.session) (state_of h.log) h.log.away h.log.unanswered t) is keeps.fits in
     waits_only (id_of h.session) (state_of h.log) call fits.2
 
-delivered_silent : (h : HandleState) (msg : EventMsg) (held : Option Held) → Keeps h.log h.session h.stage → Silent h.log (delivered h msg held).log
+pub delivered_silent : (h : HandleState) (msg : EventMsg) (held : Option Held) → Keeps h.log h.session h.stage → Silent h.log (delivered h msg held).log
 delivered_silent h msg held keeps =
     let stepped : LogState = with_steps h.log (made_by (state_of h.log).model msg) in
     let logged : HandleState = record h { log = with_given stepped held } in
@@ -158,7 +152,7 @@ delivered_silent h msg held keeps =
     (silent_then stepped logged.log (awoken h.stage logged).log (given_silent stepped held) (awoken_silent h.stage logged (λ line call is. waits_dqbuf h line call keeps is)))
 
 -- a call that was executed while events are delivered stops queues
-free_tells : (x : Slice) (v : Inner) (o : Out) → holds_back x.handle.stage ≡ false → IsOut o x v → NoTell (option_to_list v.executed)
+pub free_tells : (x : Slice) (v : Inner) (o : Out) → holds_back x.handle.stage ≡ false → IsOut o x v → NoTell (option_to_list v.executed)
 free_tells x v Nowhere free out = subst (λ e. NoTell (option_to_list e)) (sym out.0.executed) tt
 free_tells x v (Asked m) free out = subst (λ e. NoTell (option_to_list e)) (sym out.0.executed) tt
 free_tells x v (Kept m) free out = subst (λ e. NoTell (option_to_list e)) (sym out.0.executed) tt
@@ -178,7 +172,7 @@ awoken_free (Waiting line call) h is free = by_way (way_from h call)
     by_way Waits = ap holds_back is
     by_way TouchesMemory = ap holds_back is
 
-delivered_free : (h : HandleState) (msg : EventMsg) (held : Option Held) → holds_back h.stage ≡ false → holds_back (delivered h msg held).stage ≡ false
+pub delivered_free : (h : HandleState) (msg : EventMsg) (held : Option Held) → holds_back h.stage ≡ false → holds_back (delivered h msg held).stage ≡ false
 delivered_free h msg held free = awoken_free h.stage _ refl free
 
 -- ---- a process that is told
@@ -263,7 +257,7 @@ taken_slice w u rows n h sound (d, ds, first, after) = by_holding (holds_back (s
           session = ap (λ (y : HandleState). y.session) handle;
           later = record {
             mappings = ap (λ (y : HandleState). mappings_of w.script.model y.log.entries v.executed) handle;
-            id = id;
+            id = λ i own. id ∙ own;
             more = [];
             frames = sym (append-nil v.frames);
           };
@@ -296,7 +290,7 @@ taken_slice w u rows n h sound (d, ds, first, after) = by_holding (holds_back (s
           session = ap (λ (y : HandleState). y.session) handle ∙ delivered_session x.handle d.msg d.held;
           later = record {
             mappings = ap (λ (y : HandleState). mappings_of m y.log.entries now.executed) handle ∙ (new ∙ sym old);
-            id = id;
+            id = λ i own. id ∙ own;
             more = goes.1;
             frames = goes.2;
           };

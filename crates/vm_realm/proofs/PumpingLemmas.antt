@@ -1,29 +1,25 @@
 -- A step that takes all events first is as many steps that take one, and then itself.
-use Rattle.std.proofs.Common.{◌≡◌, ℕ, zero, suc, ◌+◌, ◌<◌, ◌≤◌, Bool, true, false, List, [], ◌∷◌, ◌++◌, Option, Some, None, is_some, length, refl, sym, ap, ◌∙◌, subst, arith}
-use Rattle.std.specs.Prelude.{replicate, slice_get}
+use Rattle.std.proofs.Common.{◌≡◌, ℕ, ◌+◌, Bool, true, false, List, [], ◌∷◌, Option, Some, None, is_some, length, refl, sym, ap, ◌∙◌, subst, arith}
+use Rattle.std.specs.Prelude.{replicate}
 use Rattle.std.proofs.lemmas.Bool.{false≢true}
 use Rattle.std.proofs.lemmas.List.{append-nil}
-use Rattle.std.proofs.lemmas.Option.{none-some}
 use Rattle.vm_link.specs.declared.link.Turn.TheVariants.{Did}
-use Rattle.vm_script.specs.declared.line.LineKind.{LineKind}
-use Rattle.vm_wire.specs.Message.{Posting, Returning}
+use Rattle.vm_wire.specs.Message.{Returning}
 use Rattle.vm_wire.specs.declared.delivery.Delivery.{Delivery}
-use Rattle.vm_guest.specs.Asking.{is_leased, begins_with_events, ends_with_events}
-use Rattle.vm_guest.specs.Events.{taken, all_taken, settled}
-use Rattle.vm_guest.specs.Guest.{GuestState, process_at, with_process}
-use Rattle.vm_guest.specs.Lines.{Begins, AnsweredFor}
+use Rattle.vm_guest.specs.Asking.{begins_with_events, ends_with_events}
+use Rattle.vm_guest.specs.Events.{taken, all_taken}
+use Rattle.vm_guest.specs.Guest.{GuestState, process_at}
 use Rattle.vm_guest.specs.Message.{Sending}
-use Rattle.vm_guest.specs.Part.{Inbox, Outbox, postings, none_if, IssuesFor, Issues, CollectsFirst, CollectsFrom, Collects, PumpsFrom}
-use Rattle.vm_guest.specs.Process.{ProcessState, is_at_rest, is_crossing, is_blocked, some_if, kept_by, next, current, issuing, crossing}
+use Rattle.vm_guest.specs.Part.{Inbox, Outbox, postings, none_if, IssuesFor, CollectsFirst, CollectsFrom, PumpsFrom}
+use Rattle.vm_guest.specs.Process.{ProcessState, is_blocked, next, current, issuing, crossing}
 use Rattle.vm_guest.specs.Steps.{all_if, Issued, Collected}
 use Rattle.vm_guest.specs.declared.asked.Statement.{Statement}
-use Rattle.vm_guest.specs.declared.status.Status.{Status}
 use Rattle.vm_guest.specs.declared.status.Status.TheVariants.{AtRest, Crossing}
 use Rattle.vm_realm.specs.declared.step.Step.{Step}
 use Rattle.vm_realm.specs.declared.step.Step.TheVariants.{Issue, Execute, Resume, Begin, Finish, Announce, Collect, Pump, Lease, GiveBack}
 use Rattle.vm_realm.specs.World.{WorldState}
 use Rattle.vm_realm.specs.Enabled.{is_some_of}
-use Rattle.vm_realm.specs.Steps.{inbox_of, after_driver, DriverDoes, Steps, Leads}
+use Rattle.vm_realm.specs.Steps.{inbox_of, after_driver, Steps, Leads}
 use Rattle.vm_realm.specs.SliceSteps.{takes_by, takes_for, takes_all}
 use Rattle.vm_realm.proofs.ProcessLemmas.{Stays, next_is, kept_some, crossing_where}
 use Rattle.vm_realm.proofs.GuestLemmas.{taken_stays}

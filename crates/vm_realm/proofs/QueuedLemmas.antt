@@ -1,12 +1,11 @@
 -- How many buffers are queued in the sessions of the device, over what it does.
-use Rattle.std.proofs.Common.{◌≡◌, ℕ, zero, suc, ◌+◌, ◌-◌, ◌<◌, ◌≤◌, Bool, true, false, not, List, [], ◌∷◌, ◌++◌, Option, Some, None, Result, Ok, Err, is_some, length, get_or, set, map, drop, refl, sym, ap, ◌∙◌, subst, arith, inl, inr, length-append, if◌then◌else◌}
-use Rattle.std.specs.Prelude.{sum_by, ◌&&◌}
+use Rattle.std.proofs.Common.{◌≡◌, ℕ, ◌+◌, ◌-◌, ◌<◌, ◌≤◌, Bool, true, not, List, [], ◌∷◌, Option, Some, None, Ok, is_some, length, map, refl, ap, ◌∙◌, arith, length-append}
+use Rattle.std.specs.Prelude.{sum_by}
 use Rattle.std.specs.List.{list_all}
 use Rattle.std.proofs.lemmas.Bool.{cond_both, and_parts, ltb-true}
 use Rattle.std.proofs.lemmas.List.{length-map, length-drop}
-use Rattle.std.proofs.lemmas.List.Sums.{sum_by-cons, sum_by-append}
+use Rattle.std.proofs.lemmas.List.Sums.{sum_by-cons}
 use Rattle.v4l_const.specs.declared.errno.Errno.{Errno}
-use Rattle.v4l_const.specs.declared.four_cc.FourCc.{FourCc}
 use Rattle.v4l_const.specs.declared.ioctl_code.IoctlCode.{IoctlCode}
 use Rattle.v4l_const.specs.declared.ioctl_code.IoctlCode.TheVariants.{QueryCap, EnumFmt, GFmt, SFmt, ReqBufs, QueryBuf, QBuf, StreamOn, StreamOff, EnumInput, GInput, SInput, TryFmt, SubscribeEvent, UnsubscribeEvent}
 use Rattle.v4l_const.specs.declared.model.Model.{Model}
@@ -21,9 +20,9 @@ use Rattle.vm_wire.specs.Buffers.{buffer_in}
 use Rattle.vm_wire.specs.declared.event.EventMsg.{EventMsg}
 use Rattle.vm_wire.specs.declared.event.EventMsg.TheVariants.{Dequeued, Happened}
 use Rattle.vm_wire.specs.Wire.{number_at}
-use Rattle.vm_session.specs.State.{SessionQueue, SessionState, queue_kind, opening_queue, queue_of, with_queue, adjusted_for, with_set_format}
-use Rattle.vm_session.specs.Buffers.{granted, with_buffers, renewed_queue, stopped_queue, queue_with, with_queued, started, kept_record}
-use Rattle.vm_session.specs.Rows.{IoctlRow, IoctlAnswer, querycap_row, enumfmt_row, gfmt_row, tryfmt_row, sfmt_row, enuminput_row, ginput_row, sinput_row, reqbufs_row, querybuf_row, qbuf_row, streamon_row, streamoff_row, ioctl_row, code_at, refused_or, refusal_of, outcome_of, ioctl_outcome}
+use Rattle.vm_session.specs.State.{SessionQueue, SessionState, queue_kind, opening_queue, queue_of, with_queue, adjusted_for}
+use Rattle.vm_session.specs.Buffers.{granted, renewed_queue, stopped_queue, queue_with, started, kept_record}
+use Rattle.vm_session.specs.Rows.{IoctlRow, IoctlAnswer, querycap_row, enumfmt_row, gfmt_row, tryfmt_row, sfmt_row, enuminput_row, ginput_row, sinput_row, reqbufs_row, querybuf_row, qbuf_row, streamon_row, streamoff_row, subscribe_row, unsubscribe_row, ioctl_row, code_at, refused_or, refusal_of, ioctl_outcome}
 use Rattle.vm_session.specs.Streaming.{is_ready, can_begin, headless, begun, counted, finished, finished_by, settled, with_returned, sent, sent_of}
 use Rattle.vm_session.specs.declared.running.Running.{Running}
 use Rattle.vm_session.specs.declared.unsent.Unsent.{Unsent}
@@ -66,7 +65,7 @@ queues_by QBuf held = length held
 queues_by code held = 0
 
 row_few : (s : SessionState) (code : IoctlCode) (p : List ℕ) (held : List Held) → queued (ioctl_row s code p held).next ≤ queued s + queues_by code held
-unfolding querycap_row enumfmt_row gfmt_row tryfmt_row sfmt_row enuminput_row ginput_row sinput_row reqbufs_row querybuf_row qbuf_row streamon_row streamoff_row
+unfolding querycap_row enumfmt_row gfmt_row tryfmt_row sfmt_row enuminput_row ginput_row sinput_row reqbufs_row querybuf_row qbuf_row streamon_row streamoff_row subscribe_row unsubscribe_row
 row_few s QueryCap p held = omega arith
 row_few s EnumFmt p held = omega arith
 row_few s GFmt p held = omega arith

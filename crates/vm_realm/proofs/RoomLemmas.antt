@@ -1,12 +1,11 @@
 -- In a sound world there is a place for what the first request adds, no call of its session waits, and few frames were made.
-use Rattle.std.proofs.Common.{◌≡◌, ◌⊎◌, ℕ, zero, suc, ◌+◌, ◌-◌, ◌*◌, ◌<◌, ◌≤◌, ◌^◌, Bool, true, false, not, List, [], ◌∷◌, ◌++◌, Option, Some, None, Ok, length, map, is_some, replicate, refl, sym, ap, ◌∙◌, subst, arith, inl, inr, eqb, cond, if◌then◌else◌, length-append}
-use Rattle.std.specs.Prelude.{IfSome, slice_get, sum_by}
-use Rattle.std.specs.List.{All, Contains, find}
-use Rattle.std.proofs.lemmas.Bool.{false≢true, true≢false, cases_eq, cases_lt, eq-eqb, ne_eqb, eqb-true}
+use Rattle.std.proofs.Common.{◌≡◌, ◌⊎◌, ℕ, zero, suc, ◌+◌, ◌*◌, ◌<◌, ◌≤◌, Bool, true, false, not, List, [], ◌∷◌, ◌++◌, Option, Some, None, Ok, length, is_some, replicate, refl, sym, ap, ◌∙◌, subst, arith, inl, inr, eqb, if◌then◌else◌, length-append}
+use Rattle.std.specs.Prelude.{IfSome, sum_by}
+use Rattle.std.specs.List.{All}
+use Rattle.std.proofs.lemmas.Bool.{false≢true, true≢false, eq-eqb, ne_eqb, eqb-true}
 use Rattle.std.proofs.lemmas.List.Sums.{sum_by-le, sum_by-cons}
 use Rattle.std.proofs.lemmas.Option.{none-some, same_Some}
 use Rattle.v4l_const.specs.IoctlCode.{payload_size}
-use Rattle.v4l_const.specs.declared.errno.Errno.{Errno}
 use Rattle.v4l_const.specs.declared.ioctl_code.IoctlCode.TheVariants.{QueryCap as QueryCapCode, EnumFmt as EnumFmtCode, GFmt as GFmtCode, TryFmt as TryFmtCode, SFmt as SFmtCode, EnumInput as EnumInputCode, GInput as GInputCode, SInput as SInputCode, ReqBufs as ReqBufsCode, QueryBuf as QueryBufCode, StreamOn as StreamOnCode, StreamOff as StreamOffCode, SubscribeEvent as SubscribeCode, UnsubscribeEvent as UnsubscribeCode}
 use Rattle.v4l_layout.specs.Records.{fmtdesc_bytes, format_bytes, input_bytes, request_bytes, buffer_bytes, subscription_bytes}
 use Rattle.v4l_rules.specs.Refusals.{first_refusal}
@@ -38,16 +37,15 @@ use Rattle.vm_host.specs.Part.{Call as WaitingCall, call_for}
 use Rattle.vm_guest.specs.Guest.{no_process, process_at}
 use Rattle.vm_guest.specs.Orderly.{IsFitProcess, no_lines}
 use Rattle.vm_guest.specs.Process.{ProcessState, is_crossing, handle_at}
-use Rattle.vm_guest.specs.declared.status.Status.TheVariants.{Crossing as IsCrossing}
 use Rattle.vm_realm.specs.World.{WorldState, statement_count, handle_count}
 use Rattle.vm_realm.specs.Inner.{Inner}
 use Rattle.vm_realm.specs.Enabled.{waits}
 use Rattle.vm_realm.specs.Left.{left_of}
 use Rattle.vm_realm.specs.Mapped.{Share}
-use Rattle.vm_realm.specs.Slice.{Slice, Out, out_at, slice_at}
+use Rattle.vm_realm.specs.Slice.{out_at}
 use Rattle.vm_realm.specs.Slice.Out.{Asked, Kept}
 use Rattle.vm_realm.specs.SliceSteps.{IsFirst}
-use Rattle.vm_realm.specs.Sound.{IsPosted, IsSoundBy, IsHandle, MadeWithin, NamesNone, id_at, shares_from, all_shares}
+use Rattle.vm_realm.specs.Sound.{IsSoundBy, IsHandle, MadeWithin, NamesNone, id_at, shares_from, all_shares}
 use Rattle.vm_realm.proofs.ListLemmas.{sums_alike}
 use Rattle.vm_realm.proofs.PartLemmas.{find_in}
 use Rattle.vm_realm.proofs.WaitingLemmas.{command_same}

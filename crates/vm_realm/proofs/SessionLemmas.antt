@@ -1,25 +1,22 @@
 -- Which session a handle's command names, and what the device's other sessions are after it.
-use Rattle.std.proofs.Common.{◌≡◌, ◌⊎◌, ℕ, zero, suc, ◌+◌, ◌*◌, ◌<◌, ◌≤◌, ◌^◌, Bool, true, false, not, List, [], ◌∷◌, ◌++◌, Option, Some, None, Result, Ok, Err, is_some, length, get_or, set, map, replicate, refl, sym, ap, ◌∙◌, subst, arith, inl, inr, eqb, cond, if◌then◌else◌, lit<}
-use Rattle.std.specs.Prelude.{◌&&◌, ◌||◌, IsSome, IfSome, sum_by}
-use Rattle.std.specs.List.{All, filter, find, list_any}
+use Rattle.std.proofs.Common.{◌≡◌, ◌⊎◌, ℕ, ◌*◌, ◌<◌, ◌≤◌, Bool, true, false, not, List, [], ◌∷◌, ◌++◌, Option, Some, None, Result, Ok, Err, is_some, length, get_or, replicate, refl, sym, ap, ◌∙◌, subst, arith, inl, inr, eqb, if◌then◌else◌}
+use Rattle.std.specs.Prelude.{◌&&◌, IsSome, IfSome}
+use Rattle.std.specs.List.{All, filter}
 use Rattle.std.specs.Option.{option_and_then, option_map}
-use Rattle.std.proofs.lemmas.Bool.{false≢true, true≢false, cases_Bool, cases_lt, not-false, or_parts, cond-false, ne_eqb}
+use Rattle.std.proofs.lemmas.Bool.{false≢true, cases_Bool, cases_lt, not-false, or_parts, cond-false, ne_eqb}
 use Rattle.std.proofs.lemmas.List.{get_or_past, get_or_append_left, get_or-set_other, length-map, nil_from_length}
 use Rattle.std.proofs.lemmas.List.Elements.{All-head, All-tail, All-get_or}
 use Rattle.std.proofs.lemmas.List.Sums.{sum_by-le}
 use Rattle.std.proofs.lemmas.Option.{none-some, same_Some}
 use Rattle.v4l_const.specs.IoctlCode.{payload_size}
 use Rattle.v4l_const.specs.declared.errno.Errno.{Errno}
-use Rattle.v4l_const.specs.declared.errno.Errno.TheVariants.{Enomem}
 use Rattle.v4l_const.specs.declared.ioctl_code.IoctlCode.{IoctlCode}
-use Rattle.v4l_const.specs.declared.ioctl_code.IoctlCode.TheVariants.{QueryCap as QueryCapCode, EnumFmt as EnumFmtCode, GFmt as GFmtCode, TryFmt as TryFmtCode, SFmt as SFmtCode, EnumInput as EnumInputCode, GInput as GInputCode, SInput as SInputCode, ReqBufs as ReqBufsCode, QueryBuf as QueryBufCode, QBuf as QBufCode, StreamOn as StreamOnCode, StreamOff as StreamOffCode, SubscribeEvent as SubscribeCode, UnsubscribeEvent as UnsubscribeCode}
-use Rattle.v4l_const.specs.declared.model.Model.{Model}
+use Rattle.v4l_const.specs.declared.ioctl_code.IoctlCode.TheVariants.{QueryCap as QueryCapCode, EnumFmt as EnumFmtCode, GFmt as GFmtCode, TryFmt as TryFmtCode, SFmt as SFmtCode, EnumInput as EnumInputCode, GInput as GInputCode, SInput as SInputCode, ReqBufs as ReqBufsCode, QueryBuf as QueryBufCode, StreamOn as StreamOnCode, StreamOff as StreamOffCode, SubscribeEvent as SubscribeCode, UnsubscribeEvent as UnsubscribeCode}
 use Rattle.v4l_layout.specs.Records.{fmtdesc_bytes, format_bytes, input_bytes, request_bytes, buffer_bytes, subscription_bytes}
 use Rattle.v4l_rules.specs.Refusals.{first_refusal}
 use Rattle.vm_frame.specs.declared.mem.Held.{Held}
 use Rattle.vm_job.specs.Entry.{parts_of}
 use Rattle.vm_job.specs.declared.job_out.JobOut.{JobOut}
-use Rattle.vm_job.specs.declared.spec.JobSpec.{JobSpec}
 use Rattle.vm_mem.specs.Lists.{first_of}
 use Rattle.vm_local.specs.declared.call.Call.{Call}
 use Rattle.vm_local.specs.declared.call.Call.TheVariants.{OpenHandle, CloseHandle, QueryCap, EnumFmt, GFmt, TryFmt, SFmt, EnumInput, GInput, SInput, ReqBufs, QueryBuf, UAlloc, QBuf, StreamOn, StreamOff, DqBuf, Mmap, Munmap, Peek, Hash, Poke, Fill, Subscribe, Unsubscribe, DqEvent}
@@ -33,12 +30,12 @@ use Rattle.vm_local.specs.State.{LocalState, opening}
 use Rattle.vm_local.specs.Memory.{named}
 use Rattle.vm_local.specs.Queue.{with_buffers}
 use Rattle.vm_local.specs.Same.{address_in, same_reply}
-use Rattle.vm_local.specs.Calls.{Row, row_of, querycap_row, enumfmt_row, gfmt_row, tryfmt_row, sfmt_row, enuminput_row, ginput_row, sinput_row, reqbufs_row, querybuf_row, ualloc_row, qbuf_row, streamon_row, streamoff_row, dqbuf_row, mmap_row, munmap_row, read_row, hash_row, write_row, fill_row, subscribe_row, unsubscribe_row, dqevent_row}
+use Rattle.vm_local.specs.Calls.{row_of, querycap_row, enumfmt_row, gfmt_row, tryfmt_row, sfmt_row, enuminput_row, ginput_row, sinput_row, reqbufs_row, querybuf_row, ualloc_row, qbuf_row, streamon_row, streamoff_row, dqbuf_row, mmap_row, munmap_row, read_row, hash_row, write_row, fill_row, subscribe_row, unsubscribe_row, dqevent_row}
 use Rattle.vm_local.specs.Steps.{counted, item_given}
 use Rattle.vm_local.specs.Log.{row_for, called, after, replay_from}
 use Rattle.vm_local.proofs.StepLemmas.{passes, answered_by, Went, finished_by, failed_by, given_by}
 use Rattle.vm_local.proofs.KeptLemmas.{some_same}
-use Rattle.vm_log.specs.LegalLog.{LogState, state_of}
+use Rattle.vm_log.specs.LegalLog.{state_of}
 use Rattle.vm_region.specs.declared.live_range.LiveRange.{LiveRange}
 use Rattle.vm_region.specs.Region.{range_at}
 use Rattle.vm_wire.specs.Buffers.{buffer_offset, reqbufs_request, querybuf_request, subscription_request}
@@ -47,7 +44,7 @@ use Rattle.vm_wire.specs.Wire.{le}
 use Rattle.vm_wire.specs.declared.command.Command.{Command}
 use Rattle.vm_wire.specs.declared.command.Command.TheVariants.{OpenSession, CloseSession, Ioctl, Map, Unmap}
 use Rattle.vm_wire.specs.declared.delivery.Delivery.{Delivery}
-use Rattle.vm_exchange.specs.Exchange.{sends, from_open, unless_by, once_answered, qbuf_crossing, way_of, crossing, crossing_of, address_of}
+use Rattle.vm_exchange.specs.Exchange.{sends, from_open, unless_by, once_answered, qbuf_crossing, crossing, crossing_of, address_of}
 use Rattle.vm_exchange.specs.declared.crossing.Crossing.{Crossing}
 use Rattle.vm_exchange.specs.declared.way.Way.{Way}
 use Rattle.vm_exchange.specs.declared.way.Way.TheVariants.{Crosses, AnsweredHere, Waits}
@@ -58,16 +55,16 @@ use Rattle.vm_device.specs.Brought.{comes_with}
 use Rattle.vm_device.specs.Device.{DeviceState, session_of}
 use Rattle.vm_device.specs.Keeps.{specs_for, specs_in}
 use Rattle.vm_device.specs.Mappings.{frame_in}
-use Rattle.vm_device.specs.Perform.{Answer, Performs, opened, closed, called as called_in, called_with, in_session, MapsFrame, MapsFound, UnmapsAt, is_busy, stops_in, must_wait}
+use Rattle.vm_device.specs.Perform.{Answer, Performs, opened, closed, called as called_in, called_with, in_session, MapsFound, UnmapsAt, is_busy, stops_in, must_wait}
 use Rattle.vm_host.specs.Chains.{named_session}
-use Rattle.vm_guest.specs.Guest.{GuestState, seat_of, handle_seated, process_at}
+use Rattle.vm_guest.specs.Guest.{seat_of, handle_seated}
 use Rattle.vm_guest.specs.Events.{events_of}
-use Rattle.vm_guest.specs.Orderly.{IsFitProcess, IsSeat, IsDriver, process_limit}
+use Rattle.vm_guest.specs.Orderly.{IsFitProcess, IsSeat}
 use Rattle.vm_guest.specs.declared.seat.Seat.{Seat}
-use Rattle.vm_script.specs.Script.{ProcessLines, ScriptLines}
-use Rattle.vm_realm.specs.World.{WorldState, handle_count}
+use Rattle.vm_script.specs.Script.{ProcessLines}
+use Rattle.vm_realm.specs.World.{WorldState}
 use Rattle.vm_realm.specs.Inner.{Inner}
-use Rattle.vm_realm.specs.Slice.{Slice, session_in, job_in, events_for, slice_at}
+use Rattle.vm_realm.specs.Slice.{Slice, job_in, events_for, slice_at}
 use Rattle.vm_realm.specs.Sound.{IsSoundBy, IsHandle, id_at, inner_at, NamesNone}
 use Rattle.vm_realm.proofs.FrameLemmas.{handle_there}
 use Rattle.vm_realm.proofs.MoveLemmas.{find_first}

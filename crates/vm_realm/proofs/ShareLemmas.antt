@@ -3,9 +3,9 @@ use Rattle.std.proofs.Common.{◌≡◌, ◌⊎◌, ℕ, zero, suc, ◌+◌, ◌
 use Rattle.std.specs.Prelude.{slice_get, IsSome}
 use Rattle.std.specs.List.{Contains}
 use Rattle.std.specs.Option.{option_and_then, option_to_list}
-use Rattle.std.proofs.lemmas.Bool.{false≢true, cases_Bool}
+use Rattle.std.proofs.lemmas.Bool.{false≢true}
 use Rattle.std.proofs.lemmas.List.{append-nil}
-use Rattle.std.proofs.lemmas.Option.{none-some, same_Some, get_or_from_slice_get, slice_get_within, option_and_then_some}
+use Rattle.std.proofs.lemmas.Option.{none-some, same_Some, get_or_from_slice_get, slice_get_within}
 use Rattle.v4l_const.specs.declared.model.Model.{Model}
 use Rattle.vm_home.specs.Moves.{is_stopping}
 use Rattle.vm_home.specs.Reached.{IsReached}
@@ -27,9 +27,9 @@ use Rattle.vm_guest.specs.Process.{ProcessState, handle_at, no_handle}
 use Rattle.vm_realm.specs.World.{WorldState}
 use Rattle.vm_realm.specs.Inner.{Inner, driver_state}
 use Rattle.vm_realm.specs.Mapped.{Mapping as Told, mapping_by, mapping_at, mappings_from, mappings_of, Share}
-use Rattle.vm_realm.specs.Slice.{Slice, Out, out_at, slice_at}
+use Rattle.vm_realm.specs.Slice.{Slice, Out, slice_at}
 use Rattle.vm_realm.specs.Slice.Out.{Nowhere, Asked, Kept, Told as TheTold, Astray}
-use Rattle.vm_realm.specs.Sound.{NothingExecuted, IsTold, IsBefore, IsOut, IsSoundSlice, IsSoundBy, IsHandle, id_at, inner_at, share_of, shares_from, all_shares}
+use Rattle.vm_realm.specs.Sound.{IsTold, IsBefore, IsOut, IsSoundSlice, IsSoundBy, IsHandle, id_at, inner_at, share_of, shares_from, all_shares}
 use Rattle.vm_realm.proofs.NamesLemmas.{names_at, made_at, given_at, HavePages, made_both, given_both, pages_both, Covers, entry_covers, log_covers, one_bound}
 use Rattle.vm_realm.proofs.JournalLemmas.{all_made, all_given, AllPages, range_there}
 
@@ -54,7 +54,7 @@ there_in g n h (Some p) x at is =
 pub named_there : (g : GuestState) (n h : ℕ) (x : HandleState) → handle_named g n h ≡ Some x → IsThere g n h x
 named_there g n h x is = there_in g n h (slice_get g.processes n) x refl is
 
-some_named : (o : Option HandleState) → is_some o ≡ true → (x : HandleState) × (o ≡ Some x)
+pub some_named : (o : Option HandleState) → is_some o ≡ true → (x : HandleState) × (o ≡ Some x)
 some_named None some = absurd (false≢true some)
 some_named (Some x) some = (x, refl)
 
@@ -195,7 +195,7 @@ log_leaves addr m log s leads =
     let covers : Covers addr (opening m) s (mappings_from (opening m) log) = log_covers addr log (opening m) s (m, [], refl) leads in
     (let names = covers.names in omega (arith, names), covers.pages)
 
-more_told : (s u : LocalState) (log : List Entry) (e : Entry) → replay_from s log ≡ Some u → mappings_from s (log ++ e ∷ []) ≡ mappings_from s log ++ mapping_at u e
+pub more_told : (s u : LocalState) (log : List Entry) (e : Entry) → replay_from s log ≡ Some u → mappings_from s (log ++ e ∷ []) ≡ mappings_from s log ++ mapping_at u e
 more_told s u [] e leads = append-nil (mapping_at s e) ∙ ap (λ x. mapping_at x e) (same_Some s u leads)
 more_told s u (d ∷ ds) e leads = by_after (after s d) refl leads (λ t goes. more_told t u ds e goes)
   where
@@ -281,7 +281,7 @@ share_leaves : (w : WorldState) (rows : List (List Inner)) (addr k n h : ℕ) �
 share_leaves w rows addr k n h sound named leaves =
     subst (λ m. Leaves addr k (mappings_of m (handle_at (process_at w.guest n) h).log.entries (inner_at w rows n h).executed)) (log_model w rows n h sound named) leaves
 
-all_leave : (w : WorldState) (rows : List (List Inner)) (addr : ℕ) → IsSoundBy w rows → Each (λ s. Leaves addr 0 s.mappings) (all_shares w rows 0 w.guest.processes)
+pub all_leave : (w : WorldState) (rows : List (List Inner)) (addr : ℕ) → IsSoundBy w rows → Each (λ s. Leaves addr 0 s.mappings) (all_shares w rows 0 w.guest.processes)
 all_leave w rows addr sound =
     each_share (λ s. Leaves addr 0 s.mappings) w rows (λ n h named.
     let slice : IsSoundSlice (slice_at w n h) (inner_at w rows n h) = sound.slices n h named in

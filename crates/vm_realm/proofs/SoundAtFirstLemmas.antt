@@ -1,54 +1,45 @@
 -- Before the first line of a script the world is a sound one.
-use Rattle.std.proofs.Common.{◌≡◌, ◌⊎◌, ◌≢◌, ℕ, zero, suc, ◌+◌, ◌*◌, ◌<◌, ◌≤◌, ◌^◌, Bool, true, false, List, [], ◌∷◌, ◌++◌, Option, Some, None, is_some, length, get_or, map, replicate, refl, sym, ap, ◌∙◌, subst, arith, inl, inr, if◌then◌else◌}
-use Rattle.std.specs.Prelude.{slice_get, IfSome, IsSome}
+use Rattle.std.proofs.Common.{◌≡◌, ℕ, ◌*◌, ◌<◌, false, List, [], ◌∷◌, Option, Some, None, length, get_or, map, replicate, refl, sym, ap, ◌∙◌, subst, arith, inl, inr}
+use Rattle.std.specs.Prelude.{slice_get}
 use Rattle.std.specs.List.{All, Contains}
-use Rattle.std.proofs.lemmas.Bool.{false≢true, cases_lt}
+use Rattle.std.proofs.lemmas.Bool.{cases_lt}
 use Rattle.std.proofs.lemmas.List.{get_or_past, get_or-replicate, length-replicate}
 use Rattle.std.proofs.lemmas.List.Elements.{All-nil, All-cons}
 use Rattle.std.proofs.lemmas.Option.{none-some}
 use Rattle.v4l_const.specs.declared.model.Model.{Model}
 use Rattle.vm_frame.specs.declared.mem.Held.{Held}
-use Rattle.vm_job.specs.declared.job_out.JobOut.{JobOut}
-use Rattle.vm_local.specs.declared.call.Call.{Call}
-use Rattle.vm_local.specs.State.{LocalState, opening}
+use Rattle.vm_local.specs.State.{opening}
 use Rattle.vm_home.specs.Moves.{memory_at}
-use Rattle.vm_region.specs.declared.live_range.LiveRange.{LiveRange}
-use Rattle.vm_region.specs.Region.{AreApart, RegionState}
-use Rattle.vm_script.specs.Script.{ProcessLines, ScriptLines}
-use Rattle.vm_script.specs.declared.line.RawChain.{RawChain}
-use Rattle.vm_script.specs.declared.line.LineKind.TheVariants.{Raw}
+use Rattle.vm_region.specs.Region.{AreApart}
+use Rattle.vm_script.specs.Script.{ScriptLines}
 use Rattle.vm_wire.specs.Message.{Posting, Returning}
-use Rattle.vm_wire.specs.declared.delivery.Delivery.{Delivery}
-use Rattle.vm_handle.specs.Handle.{HandleState, Keeps, fresh_handle}
+use Rattle.vm_handle.specs.Handle.{HandleState, fresh_handle}
 use Rattle.vm_handle.specs.declared.stage.Stage.TheVariants.{Underway, AtRest as Resting}
 use Rattle.vm_handle.proofs.KeptLemmas.{IsKept, fresh_kept}
-use Rattle.vm_device.specs.Device.{DeviceState, fresh_device, session_of}
-use Rattle.vm_device.specs.Keeps.{IsSound as IsSoundDevice}
+use Rattle.vm_device.specs.Device.{DeviceState}
 use Rattle.vm_device.proofs.MappingLemmas.{fits_nothing}
 use Rattle.vm_device.proofs.StepLemmas.{fresh_sound}
 use Rattle.vm_host.specs.Part.{Call as WaitingCall}
 use Rattle.vm_pump.specs.Pump.{PumpState, handle_room}
 use Rattle.vm_session.specs.declared.unsent.Unsent.{Unsent}
-use Rattle.vm_guest.specs.Chain.{event_chains}
-use Rattle.vm_guest.specs.Guest.{GuestState, no_process, process_at, handle_seated, seat_of, raw_answer}
-use Rattle.vm_guest.specs.Orderly.{IsDriver, IsFresh, IsFreshGuest, fresh_at, lines_at}
-use Rattle.vm_guest.specs.Process.{ProcessState, is_crossing, current, crossing, crossing_call, current_call, some_if, handle_at}
+use Rattle.vm_guest.specs.Guest.{no_process, process_at, seat_of}
+use Rattle.vm_guest.specs.Orderly.{IsDriver, IsFresh, fresh_at, lines_at}
+use Rattle.vm_guest.specs.Process.{ProcessState, is_crossing, current, crossing, some_if, handle_at}
 use Rattle.vm_guest.specs.declared.seat.Seat.{Seat}
 use Rattle.vm_guest.specs.declared.asked.Statement.{Statement}
-use Rattle.vm_guest.specs.declared.status.Status.{Status}
 use Rattle.vm_guest.specs.declared.status.Status.TheVariants.{AtRest}
 use Rattle.vm_guest.proofs.GuestFreshLemmas.{fresh_driver, few_handles}
 use Rattle.vm_realm.specs.World.{WorldState, IsOpening, handle_count, statement_count}
-use Rattle.vm_realm.specs.Inner.{Inner, inner_of, driver_state, under_way}
+use Rattle.vm_realm.specs.Inner.{inner_of, driver_state}
 use Rattle.vm_realm.specs.Left.{left_of}
-use Rattle.vm_realm.specs.Mapped.{Share, IsJournalOf, AreLive}
-use Rattle.vm_realm.specs.Slice.{Slice, Out, id_ahead, session_in, job_in, events_for, requests_of, calls_of, replies_of, out_of, is_on, out_at, slice_with, slice_at}
+use Rattle.vm_realm.specs.Mapped.{Share, IsJournalOf}
+use Rattle.vm_realm.specs.Slice.{Slice, id_ahead, requests_of, calls_of, replies_of, out_at, slice_with, slice_at}
 use Rattle.vm_realm.specs.Slice.Out.{Nowhere, Asked, Kept, Told}
-use Rattle.vm_realm.specs.Sound.{IsRunnable, NothingExecuted, IsOut, IsShut, IsSoundSlice, IsStill, stopped_last, queue_told, AnswersRaws, IsLineOut, IsQuiet, AgreeOnIds, IsSaid, AreOfHandles, RiseFrom, WaitInOwn, IsDeviceFor, MadeWithin, IsWithin, IsSoundBy, IsSound, IsHandle, id_at, inner_at, out_count, one_if, share_of, all_shares}
-use Rattle.vm_realm.specs.Users.{KeepsUsers, IsUsers, AreUsers}
+use Rattle.vm_realm.specs.Sound.{IsRunnable, IsSoundSlice, stopped_last, queue_told, AnswersRaws, IsLineOut, IsQuiet, AgreeOnIds, IsSaid, AreOfHandles, RiseFrom, IsDeviceFor, MadeWithin, IsWithin, IsSound, IsHandle, id_at, inner_at, one_if, share_of, all_shares}
+use Rattle.vm_realm.specs.Users.{IsUsers, AreUsers}
 use Rattle.vm_realm.proofs.OpeningLemmas.{opening_left}
 use Rattle.vm_realm.proofs.LendLemmas.{nowhere}
-use Rattle.vm_realm.proofs.ShareLemmas.{IsThere, is_there, Each, each_share, share_at}
+use Rattle.vm_realm.proofs.ShareLemmas.{IsThere, is_there, Each, each_share}
 
 -- ---- one handle
 
@@ -187,6 +178,7 @@ module _ (script : ScriptLines) (w : WorldState) (run : IsRunnable script) (firs
     deals = (all_empty (all_shares w [] 0 w.guest.processes) no_mappings, refl);
     live = λ addr. refl;
     apart = no_ranges;
+    low = λ tag r is. absurd (none-some r is);
     tagged = λ addr r is. absurd (none-some r is);
   })
 

@@ -1,9 +1,9 @@
 -- Where a line isn't answered some step may come next, and where it was begun one that begins no other.
-use Rattle.std.proofs.Common.{◌≡◌, ◌⊎◌, ℕ, zero, suc, ◌+◌, ◌<◌, ◌≤◌, Bool, true, false, not, List, [], ◌∷◌, ◌++◌, Option, Some, None, is_some, length, get_or, map, refl, sym, ap, ◌∙◌, subst, arith, inl, inr, eqb, cond, if◌then◌else◌}
-use Rattle.std.specs.Prelude.{◌&&◌, ◌||◌, nat_lt, slice_get}
+use Rattle.std.proofs.Common.{◌≡◌, ◌⊎◌, ℕ, zero, suc, ◌+◌, ◌<◌, ◌≤◌, Bool, true, false, not, List, [], ◌∷◌, ◌++◌, Option, Some, None, is_some, length, get_or, map, refl, sym, ap, ◌∙◌, subst, arith, inl, inr, eqb, if◌then◌else◌}
+use Rattle.std.specs.Prelude.{◌&&◌, nat_lt, slice_get}
 use Rattle.std.specs.List.{All, Contains, filter, find, list_any}
 use Rattle.std.specs.Option.{option_map, option_and_then, option_to_list}
-use Rattle.std.proofs.lemmas.Bool.{false≢true, true≢false, cases_Bool, cases_lt, cond_both, and_from, or_left, or_right, lt-ltb, eq-eqb, ne_eqb, eqb-false}
+use Rattle.std.proofs.lemmas.Bool.{false≢true, true≢false, cases_Bool, cases_lt, cond_both, and_from, or_left, or_right, lt-ltb, eqb-false}
 use Rattle.std.proofs.lemmas.List.{length-map, nil_from_length}
 use Rattle.std.proofs.lemmas.List.Elements.{All-nil, All-cons}
 use Rattle.std.proofs.lemmas.Option.{none-some, slice_get-get_or, option_and_then_some}
@@ -12,7 +12,6 @@ use Rattle.v4l_const.specs.declared.errno.Errno.TheVariants.{Einval, Eagain, Ede
 use Rattle.v4l_rules.specs.Refusals.{first_refusal, no_type}
 use Rattle.vm_mem.specs.Lists.{occurrences}
 use Rattle.vm_job.specs.declared.job_out.JobOut.{JobOut}
-use Rattle.vm_job.specs.declared.spec.JobSpec.{JobSpec}
 use Rattle.vm_local.specs.declared.call.Call.{Call}
 use Rattle.vm_local.specs.declared.call.Call.TheVariants.{OpenHandle, CloseHandle, QueryCap, EnumFmt, GFmt, TryFmt, SFmt, EnumInput, GInput, SInput, ReqBufs, QueryBuf, UAlloc, QBuf, StreamOn, StreamOff, DqBuf, Mmap, Munmap, Peek, Hash, Poke, Fill, Subscribe, Unsubscribe, DqEvent}
 use Rattle.vm_local.specs.State.{LocalState, queue_of}
@@ -22,43 +21,39 @@ use Rattle.vm_log.specs.LegalLog.{state_of}
 use Rattle.vm_script.specs.declared.line.LineKind.{LineKind}
 use Rattle.vm_script.specs.declared.line.LineKind.TheVariants.{OnHandle, Raw}
 use Rattle.vm_wire.specs.Message.{Posting, Returning}
-use Rattle.vm_wire.specs.declared.command.Command.{Command}
 use Rattle.vm_wire.specs.declared.delivery.Delivery.{Delivery}
-use Rattle.vm_exchange.specs.Exchange.{way_of, from_open, sends, unless_by, once_answered}
+use Rattle.vm_exchange.specs.Exchange.{way_of, from_open, unless_by, once_answered}
 use Rattle.vm_exchange.specs.declared.crossing.Crossing.{Crossing as CrossingOf}
 use Rattle.vm_exchange.specs.declared.way.Way.{Way}
 use Rattle.vm_exchange.specs.declared.way.Way.TheVariants.{Crosses, AnsweredHere, Waits, TouchesMemory}
-use Rattle.vm_handle.specs.Handle.{HandleState, Keeps, FitsStage, id_of}
-use Rattle.vm_handle.specs.declared.stage.Stage.{Stage}
+use Rattle.vm_handle.specs.Handle.{FitsStage, id_of}
 use Rattle.vm_handle.specs.declared.stage.Stage.TheVariants.{Waiting}
 use Rattle.vm_session.specs.State.{SessionState, is_quiet}
 use Rattle.vm_session.specs.Streaming.{can_begin as session_can_begin}
 use Rattle.vm_session.specs.declared.running.Running.{Running}
-use Rattle.vm_session.specs.declared.unsent.Unsent.{Unsent}
-use Rattle.vm_stands.specs.Slice.{IsSlice, LeadAhead}
+use Rattle.vm_stands.specs.Slice.{LeadAhead}
 use Rattle.vm_stands.specs.Flight.{LeadAll}
 use Rattle.vm_stands.proofs.BegunLemmas.{begins_alike}
 use Rattle.vm_device.specs.Device.{DeviceState, session_of, is_ready, is_at_rest}
 use Rattle.vm_device.specs.Keeps.{specs_for, specs_in, unsent_in}
-use Rattle.vm_device.specs.Stream.{outstanding}
-use Rattle.vm_host.specs.Part.{Part, Call as WaitingCall}
+use Rattle.vm_host.specs.Part.{Call as WaitingCall}
 use Rattle.vm_guest.specs.Asking.{asked_by, asked_in, is_leased}
-use Rattle.vm_guest.specs.Guest.{no_process, process_at, handle_named}
-use Rattle.vm_guest.specs.Orderly.{IsOrderly, MayBeRaw, IsOut as IsCallOut, IsOutAt, lines_at}
-use Rattle.vm_guest.specs.Process.{ProcessState, begun, is_at_rest as rests, is_crossing, is_lent, is_done, current, current_call, some_if, kept_by, next, issuing, leasing, lease_on, lease_out, handle_at, no_handle}
+use Rattle.vm_guest.specs.Guest.{no_process, process_at}
+use Rattle.vm_guest.specs.Orderly.{IsOrderly, MayBeRaw, IsOutAt, lines_at}
+use Rattle.vm_guest.specs.Process.{ProcessState, begun, is_at_rest as rests, is_crossing, is_lent, is_done, current, current_call, some_if, kept_by, next, lease_on, lease_out, handle_at, no_handle}
 use Rattle.vm_guest.specs.declared.asked.Asked.{Asked as AskedCall}
 use Rattle.vm_guest.specs.declared.asked.Statement.{Statement}
 use Rattle.vm_guest.specs.declared.status.Status.{Status}
 use Rattle.vm_guest.specs.declared.status.Status.TheVariants.{AtRest, Crossing, Blocked, Lent}
 use Rattle.vm_realm.specs.declared.step.Step.{Step}
 use Rattle.vm_realm.specs.declared.step.Step.TheVariants.{Issue, Execute, Resume, Begin, Finish, Announce, Collect, Pump, Lease, GiveBack}
-use Rattle.vm_realm.specs.World.{WorldState, IsDone, jobs_out}
-use Rattle.vm_realm.specs.Enabled.{is_some_of, waits, can_begin, can_resume, can_announce, is_enabled, enabled, begins_line}
+use Rattle.vm_realm.specs.World.{WorldState, IsDone}
+use Rattle.vm_realm.specs.Enabled.{is_some_of, waits, is_enabled, enabled, begins_line}
 use Rattle.vm_realm.specs.Inner.{Inner, driver_state, id_in}
-use Rattle.vm_realm.specs.Slice.{Slice, Out, requests_of, calls_of, replies_of, session_in, events_for, out_at, slice_at, unsent_by, earlier_of}
+use Rattle.vm_realm.specs.Slice.{Slice, session_in, events_for, out_at, slice_at, unsent_by, earlier_of}
 use Rattle.vm_realm.specs.Slice.Out.{Nowhere}
 use Rattle.vm_realm.specs.SliceSteps.{holds_back}
-use Rattle.vm_realm.specs.Sound.{NothingExecuted, IsOut, IsSeated, IsShut, IsSoundSlice, IsSoundBy, IsHandle, HoldsFew, id_at, inner_at, out_count, one_if}
+use Rattle.vm_realm.specs.Sound.{NothingExecuted, IsOut, IsSeated, IsSoundSlice, IsSoundBy, IsHandle, HoldsFew, id_at, inner_at, out_count, one_if}
 use Rattle.vm_realm.specs.Laws.{IsBusy}
 use Rattle.vm_realm.proofs.ListLemmas.{in_front, finds_in, some_mapped}
 use Rattle.vm_realm.proofs.SumLemmas.{place_within}

@@ -1,5 +1,5 @@
 -- What a statement that is begun or answered leaves of its process.
-use Rattle.std.proofs.Common.{◌≡◌, ℕ, ◌+◌, ◌*◌, ◌-◌, ◌<◌, ◌≤◌, Bool, true, false, List, [], ◌∷◌, Option, Some, None, length, refl, sym, ap, ◌∙◌, subst, arith}
+use Rattle.std.proofs.Common.{◌≡◌, ℕ, ◌+◌, ◌*◌, ◌≤◌, Option, Some, None, length, refl, ap, ◌∙◌, arith}
 use Rattle.std.proofs.lemmas.Option.{none-some}
 use Rattle.v4l_const.specs.declared.errno.Errno.{Errno}
 use Rattle.v4l_rules.specs.Refusals.{first_refusal}
@@ -7,7 +7,7 @@ use Rattle.vm_lease.specs.Lease.{LeaseParts}
 use Rattle.vm_lease.specs.declared.lease_out.LeaseOut.{LeaseOut}
 use Rattle.vm_local.specs.declared.call.Call.{Call}
 use Rattle.vm_log.specs.Answers.{with_line, Leases, given_back}
-use Rattle.vm_log.specs.LegalLog.{LogState, lease_in}
+use Rattle.vm_log.specs.LegalLog.{LogState}
 use Rattle.vm_log.specs.declared.leased.Leased.{Leased}
 use Rattle.vm_log.specs.declared.leased.Leased.TheVariants.{Out, Answered, Idle}
 use Rattle.vm_script.specs.declared.line.LineKind.{LineKind}
@@ -17,15 +17,14 @@ use Rattle.vm_exchange.specs.declared.way.Way.{Way}
 use Rattle.vm_exchange.specs.declared.way.Way.TheVariants.{Crosses, AnsweredHere, Waits, TouchesMemory}
 use Rattle.vm_handle.specs.Answers.{row_from}
 use Rattle.vm_handle.specs.Handle.{way_from}
-use Rattle.vm_guest.specs.Lines.{BeginsCall, Begins, CallAnswered, RawAnswered, AnsweredFor, after_lease, LeasesCall, returned_to, returned, waiting, replied}
+use Rattle.vm_guest.specs.Lines.{BeginsCall, Begins, AnsweredFor, after_lease, LeasesCall, returned_to, returned, waiting}
 use Rattle.vm_guest.specs.Message.{Sending}
-use Rattle.vm_guest.specs.Process.{ProcessState, handle_at, with_handle, with_log, current_call, is_lent, doing, rested, some_if, lease_on, lease_out}
+use Rattle.vm_guest.specs.Process.{ProcessState, handle_at, with_handle, with_log, current_call, is_lent, doing, lease_on, lease_out}
 use Rattle.vm_guest.specs.declared.asked.Asked.{Asked}
-use Rattle.vm_guest.specs.declared.status.Status.{Status}
-use Rattle.vm_guest.specs.declared.status.Status.TheVariants.{AtRest, Crossing, Blocked, Lent}
+use Rattle.vm_guest.specs.declared.status.Status.TheVariants.{Crossing, Blocked, Lent}
 use Rattle.vm_realm.specs.Left.{unbegun}
 use Rattle.vm_realm.proofs.SumLemmas.{one_in, one_most}
-use Rattle.vm_realm.proofs.ProcessLemmas.{weight, ahead_of, rest_weight, begun_weight, rested_weight, some_where, lent_is}
+use Rattle.vm_realm.proofs.ProcessLemmas.{weight, ahead_of, begun_weight, rested_weight, some_where, lent_is}
 
 -- so much is left of a process whose statement was begun, but for its lease
 abbrev pub Goes : ProcessState → ProcessState → Type 0

@@ -1,6 +1,6 @@
 -- Where no event is to be taken first, each step is one of one handle, or of none.
 use Rattle.std.proofs.Common.{inl}
-use Rattle.vm_realm.specs.Laws.{StepMovesOne, StepsMoveOne}
+use Rattle.vm_realm.specs.Laws.{StepMovesOne}
 use Rattle.vm_realm.specs.declared.step.Step.{Step}
 use Rattle.vm_realm.specs.declared.step.Step.TheVariants.{Issue, Execute, Resume, Begin, Finish, Announce, Collect, Pump, Lease, GiveBack}
 use Rattle.vm_realm.proofs.MoveLemmas.{announce_moves, begin_moves, finish_moves}

@@ -1,9 +1,9 @@
 -- An event that is taken moves the slice of the handle that has its session.
-use Rattle.std.proofs.Common.{◌≡◌, ◌⊎◌, ℕ, zero, suc, ◌+◌, ◌<◌, ◌≤◌, Bool, true, false, not, List, [], ◌∷◌, ◌++◌, Option, Some, None, is_some, length, get_or, set, refl, sym, ap, ◌∙◌, subst, arith, inl, inr, eqb, cond, if◌then◌else◌}
+use Rattle.std.proofs.Common.{◌≡◌, ℕ, ◌+◌, ◌<◌, Bool, true, false, not, List, [], ◌∷◌, ◌++◌, Option, Some, None, is_some, length, get_or, set, refl, sym, ap, ◌∙◌, subst, inl, inr, eqb, if◌then◌else◌}
 use Rattle.std.specs.Prelude.{◌&&◌, IsSome, IfSome, slice_get}
 use Rattle.std.specs.List.{All}
 use Rattle.std.specs.Option.{option_and_then}
-use Rattle.std.proofs.lemmas.Bool.{false≢true, cases_Bool, cases_eq, cases_lt, cond-true, cond-false, cond_both, eq-eqb, ne_eqb, and_left, and_parts}
+use Rattle.std.proofs.lemmas.Bool.{false≢true, cases_eq, cases_lt, cond_both, eq-eqb, ne_eqb, and_left, and_parts}
 use Rattle.std.proofs.lemmas.List.{append-nil, get_or_past, get_or-set_same, get_or-set_other}
 use Rattle.std.proofs.lemmas.List.Elements.{All-head, All-get_or}
 use Rattle.std.proofs.lemmas.Option.{none-some, slice_get-get_or}
@@ -13,9 +13,8 @@ use Rattle.vm_local.specs.declared.call.Call.{Call}
 use Rattle.vm_local.specs.declared.call.Call.TheVariants.{OpenHandle}
 use Rattle.vm_local.specs.declared.reply.Reply.TheVariants.{Done}
 use Rattle.vm_local.specs.State.{LocalState}
-use Rattle.vm_log.specs.LegalLog.{LogState, state_of, lease_in}
+use Rattle.vm_log.specs.LegalLog.{lease_in}
 use Rattle.vm_log.specs.declared.away.Away.{Away}
-use Rattle.vm_log.specs.declared.away.Away.TheVariants.{Nothing, Sent}
 use Rattle.vm_link.specs.declared.link.Turn.TheVariants.{Did, Idle}
 use Rattle.vm_wire.specs.Message.{Returning}
 use Rattle.vm_wire.specs.Wire.{response_of}
@@ -26,29 +25,28 @@ use Rattle.vm_wire.specs.declared.response.Response.{Response}
 use Rattle.vm_frame.specs.declared.mem.Held.{Held}
 use Rattle.vm_exchange.specs.declared.way.Way.{Way}
 use Rattle.vm_exchange.specs.declared.way.Way.TheVariants.{Crosses, AnsweredHere, Waits, TouchesMemory}
-use Rattle.vm_handle.specs.Answers.{session_from, with_steps, with_given, answered_at, awoken, delivered}
-use Rattle.vm_handle.specs.Handle.{HandleState, way_from, Keeps, IsAlong, FitsStage, id_of}
+use Rattle.vm_handle.specs.Answers.{session_from, answered_at, awoken, delivered}
+use Rattle.vm_handle.specs.Handle.{HandleState, way_from, Keeps, IsAlong, FitsStage}
 use Rattle.vm_handle.specs.declared.stage.Stage.{Stage}
 use Rattle.vm_handle.specs.declared.stage.Stage.TheVariants.{AtRest, Underway, Waiting}
-use Rattle.vm_guest.specs.Events.{woken, told, told_at, is_overtaken, holds_back as guest_holds, held_back, given, taken_at, taken}
-use Rattle.vm_guest.specs.Guest.{GuestState, no_process, process_in, process_at, handle_seated, seat_of}
-use Rattle.vm_guest.specs.Orderly.{IsDriver, IsOrderly, AnswersLines, IsOut as IsCallOut, IsOutAt, IsSeat}
+use Rattle.vm_guest.specs.Events.{woken, told, is_overtaken, holds_back as guest_holds, held_back, given, taken_at, taken}
+use Rattle.vm_guest.specs.Guest.{GuestState, no_process, process_at, handle_seated, seat_of}
+use Rattle.vm_guest.specs.Orderly.{IsOrderly, IsOutAt, IsSeat}
 use Rattle.vm_guest.specs.Part.{Inbox, Outbox, PumpsFrom, Pumps}
 use Rattle.vm_guest.specs.Process.{ProcessState, is_crossing, is_blocked, is_answered_in, some_if, current_call, crossing_call, handle_at, with_handle, no_handle, rested}
 use Rattle.vm_guest.specs.declared.asked.Asked.{Asked as AskedCall}
 use Rattle.vm_guest.specs.declared.seat.Seat.{Seat}
 use Rattle.vm_guest.specs.declared.status.Status.{Status}
 use Rattle.vm_guest.specs.declared.status.Status.TheVariants.{AtRest as Resting, Crossing, Blocked, Lent}
-use Rattle.vm_realm.specs.declared.step.Step.{Step}
 use Rattle.vm_realm.specs.declared.step.Step.TheVariants.{Pump}
 use Rattle.vm_realm.specs.World.{WorldState, jobs_out}
 use Rattle.vm_realm.specs.Inner.{Inner}
 use Rattle.vm_realm.specs.Steps.{inbox_of, after_driver, DriverDoes}
-use Rattle.vm_realm.specs.Slice.{Slice, Out, id_told, id_ahead, session_in, job_in, events_for, out_of, is_on, out_at, slice_with, slice_at, SameElsewhere}
+use Rattle.vm_realm.specs.Slice.{Slice, Out, id_told, id_ahead, session_in, job_in, events_for, out_of, is_on, out_at, slice_with, slice_at}
 use Rattle.vm_realm.specs.Slice.Out.{Nowhere, Asked, Kept, Told, Astray}
-use Rattle.vm_realm.specs.SliceSteps.{IsFirst, holds_back, taken as slice_taken, Takes, SliceDoes, MovesOne}
+use Rattle.vm_realm.specs.SliceSteps.{IsFirst, holds_back, taken as slice_taken, MovesOne}
 use Rattle.vm_realm.specs.Sound.{IsOut, IsSoundSlice, IsSoundBy, IsHandle, id_at, inner_at}
-use Rattle.vm_realm.proofs.FrameLemmas.{SameParts, same_slice, other_behind, own_behind, other_first, own_first, has_handle}
+use Rattle.vm_realm.proofs.FrameLemmas.{same_slice, other_behind, own_behind, other_first, own_first, has_handle}
 
 -- ---- a session stays the handle's
 

@@ -1,6 +1,6 @@
 -- In a sound world a call that waits in the device is one that stops queues.
-use Rattle.std.proofs.Common.{◌≡◌, ℕ, Bool, true, false, List, [], ◌∷◌, Option, Some, None, Ok, Err, refl, sym, ap, ◌∙◌, subst}
-use Rattle.std.specs.List.{All, Contains}
+use Rattle.std.proofs.Common.{◌≡◌, ℕ, true, List, Some, Ok, refl, sym, ap, ◌∙◌, subst}
+use Rattle.std.specs.List.{Contains}
 use Rattle.std.proofs.lemmas.Bool.{false≢true, cond_both}
 use Rattle.std.proofs.lemmas.List.Elements.{All-contains}
 use Rattle.std.proofs.lemmas.Option.{none-some, same_Some}
@@ -12,15 +12,15 @@ use Rattle.vm_log.specs.LegalLog.{state_of}
 use Rattle.vm_wire.specs.Message.{Ask, Posting}
 use Rattle.vm_wire.specs.Message.Ask.{Judged}
 use Rattle.vm_wire.specs.declared.command.Command.{Command}
-use Rattle.vm_exchange.specs.Exchange.{way_of, from_open, sends, crossing, crossing_of}
+use Rattle.vm_exchange.specs.Exchange.{from_open, sends, crossing, crossing_of}
 use Rattle.vm_exchange.specs.declared.crossing.Crossing.{Crossing}
 use Rattle.vm_exchange.specs.declared.way.Way.{Way}
-use Rattle.vm_exchange.specs.declared.way.Way.TheVariants.{Crosses, AnsweredHere}
+use Rattle.vm_exchange.specs.declared.way.Way.TheVariants.{AnsweredHere}
 use Rattle.vm_handle.specs.Handle.{id_of}
 use Rattle.vm_host.specs.Part.{Call as WaitingCall}
 use Rattle.vm_realm.specs.World.{WorldState}
 use Rattle.vm_realm.specs.Inner.{Inner}
-use Rattle.vm_realm.specs.Slice.{Slice, Out, out_at, slice_at}
+use Rattle.vm_realm.specs.Slice.{Slice, out_at, slice_at}
 use Rattle.vm_realm.specs.Slice.Out.{Kept}
 use Rattle.vm_realm.specs.Sound.{IsKept, IsOut, IsSoundSlice, IsSoundBy, IsHandle, id_at, inner_at}
 use Rattle.vm_realm.proofs.DeviceLemmas.{brings}

@@ -1,37 +1,42 @@
 -- The laws of the world: what each of its steps keeps, lowers and moves.
-use Rattle.std.specs.Prelude.{ℕ, ◌^◌, ◌≡◌, ◌≤◌, ◌<◌, ◌+◌, ◌*◌, ◌⊎◌, ◌↔◌, Bool, true, false, not, nat_lt, List, ◌∷◌, ◌++◌, Contains, length, Some, Ok, IfSome}
+use Rattle.std.specs.Prelude.{ℕ, ◌≡◌, ◌≤◌, ◌<◌, ◌+◌, ◌*◌, ◌⊎◌, ◌↔◌, Bool, true, false, not, nat_lt, List, [], ◌∷◌, ◌++◌, Contains, length, Some, Ok, IfSome}
 use Rattle.std.specs.List.{list_any}
+use Rattle.vm_home.specs.Moves.{is_stopping}
 use Rattle.vm_job.specs.Job.{DoneParts}
 use Rattle.vm_local.specs.declared.call.Call.{Call}
-use Rattle.vm_local.specs.declared.call.Call.TheVariants.{CloseHandle, QueryCap, EnumFmt, GFmt, TryFmt, SFmt, EnumInput, GInput, SInput, QueryBuf, StreamOn, StreamOff, Mmap, Munmap, ReqBufs}
+use Rattle.vm_local.specs.declared.call.Call.TheVariants.{CloseHandle, QueryCap, EnumFmt, GFmt, TryFmt, SFmt, EnumInput, GInput, SInput, QueryBuf, StreamOn, StreamOff, Mmap, QBuf, UAlloc, Munmap, ReqBufs, Subscribe, Unsubscribe}
 use Rattle.vm_local.specs.declared.entry.Entry.{Entry}
+use Rattle.vm_local.specs.declared.entry.Entry.TheVariants.{Called}
+use Rattle.vm_local.specs.declared.reply.Reply.{Reply}
+use Rattle.vm_local.specs.Live.{is_of_device}
 use Rattle.vm_script.specs.Script.{ScriptLines}
 use Rattle.vm_script.specs.declared.line.LineKind.{LineKind}
+use Rattle.vm_script.specs.declared.line.LineKind.TheVariants.{OnHandle, Raw}
 use Rattle.vm_wire.specs.Message.Ask.{Judged}
 use Rattle.vm_wire.specs.declared.command.Command.{Command}
-use Rattle.vm_region.specs.Region.{RegionState, Maps, range_of}
 use Rattle.vm_device.specs.Device.{DeviceState}
 use Rattle.vm_device.specs.Perform.{HasPlaceFor, EachMadeFew, must_wait}
 use Rattle.vm_host.specs.Chains.{named_session}
-use Rattle.vm_guest.specs.Asking.{ends_with_events}
+use Rattle.vm_guest.specs.Asking.{begins_with_events, ends_with_events}
 use Rattle.vm_guest.specs.Events.{all_taken, CanTakeAll, CanSettle}
 use Rattle.vm_guest.specs.Guest.{GuestState, process_at, with_process}
 use Rattle.vm_guest.specs.Lines.{CanAnswer, AnsweredFor}
 use Rattle.vm_wire.specs.Message.{Posting, Returning}
-use Rattle.vm_guest.specs.Process.{ProcessState, begun, crossing, handle_at}
+use Rattle.vm_guest.specs.Process.{ProcessState, begun, issuing, crossing, handle_at}
 use Rattle.vm_guest.specs.Steps.{all_if}
 use Rattle.vm_guest.specs.declared.asked.Statement.{Statement}
 use Rattle.vm_realm.specs.declared.step.Step.{Step}
-use Rattle.vm_realm.specs.declared.step.Step.TheVariants.{Finish, Pump}
+use Rattle.vm_realm.specs.declared.step.Step.TheVariants.{Issue, Execute, Resume, Begin, Finish, Announce, Collect, Pump, Lease, GiveBack}
 use Rattle.vm_realm.specs.World.{WorldState, IsOpening, IsDone, statement_count}
 use Rattle.vm_realm.specs.Enabled.{enabled, is_enabled, begins_line, waits}
-use Rattle.vm_realm.specs.Steps.{Steps, DoesFinishWith}
+use Rattle.vm_realm.specs.Steps.{Steps, Leads, DoesFinishWith}
 use Rattle.vm_realm.specs.Left.{left_of, bad_count}
-use Rattle.vm_realm.specs.Slice.{Slice, SameEverywhere}
+use Rattle.vm_realm.specs.Slice.{Slice, slice_at, SameEverywhere}
 use Rattle.vm_realm.specs.Slice.Out.{Asked, Kept}
-use Rattle.vm_realm.specs.SliceSteps.{SliceDoes, Takes, MovesOne, TakesNone, IsDeviceOf, IsServed}
+use Rattle.vm_realm.specs.SliceSteps.{SliceDoes, Takes, MovesOne, TakesNone, takes_by, IsDeviceOf, IsServed}
 use Rattle.vm_realm.specs.Inner.{Inner}
-use Rattle.vm_realm.specs.Sound.{IsRunnable, IsSound, IsPosted, IsSoundSlice, IsHandle, IsWholeSlice}
+use Rattle.vm_realm.specs.Places.{Spot, places_of, is_live, IsOncePlaced, AgreesWithOwners}
+use Rattle.vm_realm.specs.Sound.{IsRunnable, IsSound, IsPosted, IsSoundSlice, IsHandle, IsWhole, IsWholeSlice}
 
 -- ---- the list of steps
 
@@ -86,12 +91,19 @@ is_plain GInput = true
 is_plain (SInput i) = true
 is_plain (QueryBuf t i) = true
 is_plain (StreamOn t) = true
+is_plain (Subscribe e) = true
+is_plain (Unsubscribe e) = true
 is_plain call = false
 
 abbrev pub halts_queue : Call → Bool
 halts_queue (ReqBufs t m n) = true
 halts_queue (StreamOff t) = true
 halts_queue call = false
+
+-- a call that queues a buffer
+abbrev pub queues_buffer : Call → Bool
+queues_buffer (QBuf t i user used ts) = true
+queues_buffer call = false
 
 abbrev pub gives_mapping : Call → Bool
 gives_mapping (Munmap m) = true
@@ -101,6 +113,10 @@ abbrev pub closes_handle : Call → Bool
 closes_handle CloseHandle = true
 closes_handle call = false
 
+abbrev pub makes_mapping : Call → Bool
+makes_mapping (Mmap m t i ro) = true
+makes_mapping call = false
+
 abbrev pub CallsKeepSlice : (Call → Bool) → Type 0
 CallsKeepSlice test =
     (x x' : Slice) (v : Inner) (m : Posting) (c : Command) (d : DeviceState)
@@ -108,31 +124,35 @@ CallsKeepSlice test =
     (x.out ≡ Asked m) ⊎ (x.out ≡ Kept m) → m.request.asks ≡ Judged (Ok c) → IsDeviceOf x d →
     must_wait d c ≡ false → IsServed m c d x x' → IsWholeSlice x' → GoesOnSoundly x' v
 
--- One that maps a frame does, where each address at which the device maps goes over the wire.
-abbrev pub makes_mapping : Call → Bool
-makes_mapping (Mmap m t i ro) = true
-makes_mapping call = false
-
-abbrev pub MapsLow : DeviceState → Type 0
-MapsLow d =
-    (tag pages addr : ℕ) (region : RegionState) →
-    Maps (range_of tag d.region.ranges) d.region tag pages addr region → addr < 2 ^ 64
-
-abbrev pub MappingsKeepSlice : Type 0
-MappingsKeepSlice =
-    (x x' : Slice) (v : Inner) (m : Posting) (c : Command) (d : DeviceState)
-    (posted : IsPosted x m) → makes_mapping posted.call ≡ true → IsSoundSlice x v →
-    (x.out ≡ Asked m) ⊎ (x.out ≡ Kept m) → m.request.asks ≡ Judged (Ok c) → IsDeviceOf x d →
-    MapsLow d → IsServed m c d x x' → IsWholeSlice x' → GoesOnSoundly x' v
-
 -- an event that is taken keeps all of it
 abbrev pub TakingKeepsSlice : Type 0
 TakingKeepsSlice =
     (x x' : Slice) (v : Inner) → IsSoundSlice x v → Takes x x' → GoesOnSoundly x' v
 
+-- a step keeps a sound world, where both ends keep to themselves
+abbrev pub StepKeepsSound : Step → Type 0
+StepKeepsSound s = (w w' : WorldState) → IsSound w → Steps w s w' → IsWhole w' → IsSound w'
+
 -- one that takes an event alone does so by itself
 abbrev pub PumpKeepsSound : Type 0
 PumpKeepsSound = (w w' : WorldState) → IsSound w → Steps w Pump w' → IsSound w'
+
+-- so steps of every kind do
+pub record EachKeepsSound : Type 0 where
+  pub issue : (p : ℕ) → StepKeepsSound (Issue p)
+  pub execute : StepKeepsSound Execute
+  pub resume : (session : ℕ) → StepKeepsSound (Resume session)
+  pub begin : (session : ℕ) → StepKeepsSound (Begin session)
+  pub finish : (number : ℕ) → StepKeepsSound (Finish number)
+  pub announce : StepKeepsSound Announce
+  pub collect : StepKeepsSound Collect
+  pub pump : PumpKeepsSound
+  pub lease : (p : ℕ) → StepKeepsSound (Lease p)
+  pub give_back : (p : ℕ) → StepKeepsSound (GiveBack p)
+
+-- both ends keep to themselves
+abbrev pub StepsKeepWhole : Type 0
+StepsKeepWhole = (w w' : WorldState) (s : Step) → IsSound w → Steps w s w' → IsWhole w'
 
 -- ---- what each step asks
 
@@ -167,6 +187,12 @@ pub record CanGoOn (w : WorldState) : Type 0 where
 abbrev pub SoundCanGoOn : Type 0
 SoundCanGoOn = (w : WorldState) → IsSound w → CanGoOn w
 
+-- each step that may come next can be done
+abbrev pub EnabledCanBeDone : Type 0
+EnabledCanBeDone =
+    (w : WorldState) (s : Step) → IsSound w → is_enabled w s ≡ true →
+    (w' : WorldState) × Steps w s w'
+
 -- ---- logs
 
 -- the script stays, and each log goes on from what it was
@@ -189,6 +215,12 @@ abbrev pub OpeningLeft : Type 0
 OpeningLeft =
     (script : ScriptLines) (w : WorldState) → IsOpening script w →
     left_of w ≤ 12 * statement_count script
+
+-- so, as both ends keep to themselves, no run has more than 12 steps for each statement
+abbrev pub RunsEnd : Type 0
+RunsEnd =
+    (script : ScriptLines) (w w' : WorldState) (steps : List Step) → IsRunnable script →
+    IsOpening script w → Leads w steps w' → length steps ≤ 12 * statement_count script
 
 -- ---- no stall
 
@@ -227,3 +259,99 @@ abbrev pub OthersCountNone : Type 0
 OthersCountNone =
     (w w' : WorldState) (s : Step) → IsSound w → Steps w s w' → is_finish s ≡ false →
     bad_count w' ≡ bad_count w
+
+-- ---- places
+
+-- in a sound slice each live memory is at one place, which is the driver's where the log says so
+abbrev pub MemoriesHavePlaces : Type 0
+MemoriesHavePlaces =
+    (x : Slice) (v : Inner) → IsSoundSlice x v → IsOncePlaced x v × AgreesWithOwners x v
+
+-- the beginning of the line moves a memory or makes one
+abbrev pub moves_begun : LineKind → Bool
+moves_begun (OnHandle h (QBuf t i user used ts)) = true
+moves_begun (OnHandle h (UAlloc u len off)) = true
+moves_begun what = false
+
+-- its answer may let a memory go, or bring some back
+abbrev pub lets_go : Call → Bool
+lets_go (Munmap m) = true
+lets_go call = is_stopping call
+
+abbrev pub moves_answered : LineKind → Bool
+moves_answered (OnHandle h call) = lets_go call
+moves_answered (Raw chain) = false
+
+abbrev pub moves_collected : GuestState → List Returning → Bool
+moves_collected g [] = false
+moves_collected g (r ∷ rs) =
+    takes_by (crossing (process_at g r.reply.who)) (λ s. moves_answered s.what)
+
+-- the steps that move memories of themselves, and not by the events that they deliver
+abbrev pub moves_memory : WorldState → Step → Bool
+moves_memory w (Issue n) = takes_by (issuing (process_at w.guest n)) (λ s. moves_begun s.what)
+moves_memory w Collect = moves_collected w.guest w.replies
+moves_memory w s = true
+
+-- the step delivers no event to the handle in a place of a process
+abbrev pub DeliversNone : WorldState → Step → ℕ → ℕ → Type 0
+DeliversNone w s n h = TakesNone w s × (s ≡ Collect → (slice_at w n h).held ≡ [])
+
+-- each memory that a handle still has stays at its place in all other steps
+abbrev pub PlacesStay : Type 0
+PlacesStay =
+    (w w' : WorldState) (s : Step) (n h m : ℕ) (v v' : Inner) (spot : Spot) →
+    IsSound w → Steps w s w' → moves_memory w s ≡ false → DeliversNone w s n h →
+    IsSoundSlice (slice_at w n h) v → IsSoundSlice (slice_at w' n h) v' →
+    is_live (slice_at w' n h) v' m ≡ true →
+    Contains (places_of (slice_at w n h) v) (record { spot = spot; number = m })
+    ↔ Contains (places_of (slice_at w' n h) v') (record { spot = spot; number = m })
+
+-- the device does a command
+abbrev pub does_command : Step → Bool
+does_command Execute = true
+does_command (Resume session) = true
+does_command s = false
+
+-- frames are made by a reqbufs alone, where it is done
+abbrev pub FramesAreMade : Type 0
+FramesAreMade =
+    (w w' : WorldState) (s : Step) (n h m : ℕ) (v v' : Inner) → IsSound w → Steps w s w' →
+    IsSoundSlice (slice_at w n h) v → IsSoundSlice (slice_at w' n h) v' →
+    is_of_device v.ahead m ≡ false → is_of_device v'.ahead m ≡ true →
+    (line : ℕ) × (t : ℕ) × (k : ℕ) × (count : ℕ) × (reply : Reply) × (does_command s ≡ true)
+    × (v'.executed ≡ Some (Called line (ReqBufs t k count) reply))
+
+-- A memory that a handle has it has no more only once no buffer and no name has it. So it may be
+-- where a name is bound anew, and where a dqbuf takes a user's memory whose name was bound anew.
+abbrev pub drops_begun : LineKind → Bool
+drops_begun (OnHandle h (UAlloc u len off)) = true
+drops_begun what = begins_with_events what
+
+-- else it is where a call is answered that stops queues, gives a mapping back or makes one
+abbrev pub makes_name : Call → Bool
+makes_name (Mmap m t i ro) = true
+makes_name call = lets_go call
+
+abbrev pub drops_answered : LineKind → Bool
+drops_answered (OnHandle h call) = makes_name call
+drops_answered (Raw chain) = false
+
+abbrev pub drops_collected : GuestState → List Returning → Bool
+drops_collected g [] = false
+drops_collected g (r ∷ rs) =
+    takes_by (crossing (process_at g r.reply.who)) (λ s. drops_answered s.what)
+
+-- and where an event is taken that a dqbuf waits for
+abbrev pub may_drop : WorldState → Step → Bool
+may_drop w (Issue n) = takes_by (issuing (process_at w.guest n)) (λ s. drops_begun s.what)
+may_drop w Collect = drops_collected w.guest w.replies
+may_drop w Pump = true
+may_drop w s = false
+
+abbrev pub MemoriesAreDropped : Type 0
+MemoriesAreDropped =
+    (w w' : WorldState) (s : Step) (n h m : ℕ) (v v' : Inner) → IsSound w → Steps w s w' →
+    IsSoundSlice (slice_at w n h) v → IsSoundSlice (slice_at w' n h) v' →
+    is_live (slice_at w n h) v m ≡ true → is_live (slice_at w' n h) v' m ≡ false →
+    may_drop w s ≡ true

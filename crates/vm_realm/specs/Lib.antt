@@ -1,6 +1,7 @@
 pub mod World
 pub mod Enabled
 pub mod Steps
+pub mod Schedule
 pub mod Left
 pub mod Slice
 pub mod SliceSteps

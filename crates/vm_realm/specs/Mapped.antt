@@ -1,8 +1,8 @@
 -- What the journal of the shared region has to do with the logs.
-use Rattle.std.specs.Prelude.{ℕ, ◌≡◌, ◌==◌, List, [], ◌∷◌, ◌++◌, All, Option, Some, None, map, find, slice_get, slice_set, slice_index_or, unwrap_or, if◌then◌else◌}
+use Rattle.std.specs.Prelude.{ℕ, ◌≡◌, ◌≤◌, ◌<◌, ◌+◌, ◌*◌, ◌^◌, ◌==◌, List, [], ◌∷◌, ◌++◌, All, Option, Some, None, map, find, slice_get, slice_set, slice_index_or, unwrap_or, if◌then◌else◌}
 use Rattle.std.specs.Option.{option_map, option_to_list}
 use Rattle.v4l_const.specs.declared.model.Model.{Model}
-use Rattle.vm_region.specs.Region.{RegionState, IsSoundJournal, live_ranges, placed_at, placed, range_at, AreApart}
+use Rattle.vm_region.specs.Region.{RegionState, IsSoundJournal, live_ranges, placed_at, placed, range_at, range_of, AreApart}
 use Rattle.vm_region.specs.declared.entry.RegionEntry.{RegionEntry}
 use Rattle.vm_region.specs.declared.entry.RegionEntry.TheVariants.{Map, Drop}
 use Rattle.vm_region.specs.declared.live_range.LiveRange.{LiveRange}
@@ -104,25 +104,32 @@ AreLive region =
     (addr : ℕ) → option_map placed (range_at addr region.ranges)
     ≡ placed_at addr (live_ranges region.journal)
 
--- A live range has the tag of a frame that the session of a handle made, and its life is that of
--- the frame's memory.
+-- each live range ends within the 2^22 pages of the region, so that its address goes over the wire
+abbrev pub AreLow : List LiveRange → Type 0
+AreLow rs =
+    (tag : ℕ) (r : LiveRange) → range_of tag rs ≡ Some r → r.addr + 4096 * r.pages ≤ 4096 * 2 ^ 22
+
+-- A live range has the tag of a frame that the session of a handle made, whose number goes into four
+-- bytes, so that no other frame has this tag; and its life is that of the frame's memory.
 pub record IsTagged (shares : List Share) (lives : List Life) (r : LiveRange) : Type 0 where
   pub life : Life
   pub id : ℕ
   pub made : ℕ
   pub lives_at : life_at r.addr lives ≡ Some life
+  pub small : made < 2 ^ 32
   pub tag : r.tag ≡ frame_tag id made
   pub own : (slice_index_or shares life.handle no_share).id ≡ Some id
   pub memory : slice_get (slice_index_or shares life.handle no_share).frames made
       ≡ Some life.memory
 
--- The journal is sound, is dealt from the handles' mappings, and tells the live ranges, which have
--- the tags of their frames.
+-- The journal is sound, is dealt from the handles' mappings, and tells the live ranges, which end
+-- within the region and have the tags of their frames.
 pub record IsJournalOf (shares : List Share) (region : RegionState) : Type 0 where
   pub lives : List Life
   pub sound : IsSoundJournal region.journal
   pub deals : DealsFrom [] region.journal (map (λ s. s.mappings) shares) lives
   pub live : AreLive region
   pub apart : AreApart region.ranges
+  pub low : AreLow region.ranges
   pub tagged : (addr : ℕ) (r : LiveRange) → range_at addr region.ranges ≡ Some r →
       IsTagged shares lives r

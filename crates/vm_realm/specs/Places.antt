@@ -1,7 +1,8 @@
 -- Where the memories of a handle are.
-use Rattle.std.specs.Prelude.{ℕ, ◌≡◌, ◌⊎◌, ◌↔◌, Bool, true, false, List, [], ◌∷◌, ◌++◌, Contains, length, map, take, drop, is_some, Option, Some, None}
+use Rattle.std.specs.Prelude.{ℕ, ◌≡◌, ◌⊎◌, ◌↔◌, ◌||◌, Bool, true, false, List, [], ◌∷◌, ◌++◌, Contains, length, map, take, drop, is_some, Option, Some, None}
 use Rattle.std.specs.List.{filter_map, range_with_len}
 use Rattle.std.specs.Option.{option_to_list}
+use Rattle.vm_mem.specs.Lists.{occurrences}
 use Rattle.vm_marks.specs.Marks.{places_of as marked_places}
 use Rattle.vm_frame.specs.declared.mem.Held.{Held}
 use Rattle.vm_job.specs.Job.{JobParts}
@@ -113,6 +114,15 @@ places_of x v =
     (numbers_in (told_state v) (filter_map (λ e. e.held) (unsent_in x.session)))
     ++ (lie_at InSession (numbers_in v.ahead (queued_held x.session))
     ++ lie_at InJob (numbers_in v.ahead (job_held x.job)))))))
+
+-- the handle has the memory, in the driver's state or in the state ahead
+abbrev pub is_live : Slice → Inner → ℕ → Bool
+is_live x v m = is_kept (driver_state x) m || is_kept v.ahead m
+
+-- each live memory is at one place
+abbrev pub IsOncePlaced : Slice → Inner → Type 0
+IsOncePlaced x v =
+    (m : ℕ) → is_live x v m ≡ true → occurrences m (map (λ l. l.number) (places_of x v)) ≡ 1
 
 -- the memory is with the driver, at home or out with a lease
 abbrev pub IsWithDriver : Slice → Inner → ℕ → Type 0

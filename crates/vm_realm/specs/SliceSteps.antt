@@ -46,6 +46,7 @@ use Rattle.vm_local.specs.declared.bound.Bound.{Bound}
 use Rattle.vm_local.specs.declared.bound.BoundKind.TheVariants.{Mapping}
 use Rattle.vm_region.specs.Region.{range_at}
 use Rattle.vm_realm.specs.Inner.{driver_state}
+use Rattle.vm_realm.specs.Mapped.{AreLow}
 use Rattle.vm_local.specs.declared.call.Call.TheVariants.{OpenHandle}
 
 -- ---- its line
@@ -99,13 +100,14 @@ told_by m a = record {
 }
 
 -- The device keeps to itself, is of the handle's model, has its session, and has a live range for
--- each of its mappings.
+-- each of its mappings; and each live range ends within the region.
 pub record IsDeviceOf (x : Slice) (d : DeviceState) : Type 0 where
   pub sound : IsSoundDevice d
   pub model : d.model ≡ x.handle.log.model
   pub session : session_in d x.handle.session ≡ x.session
   pub ranges : (b : Bound) (addr len : ℕ) (writable : Bool) → Contains (driver_state x).bound b →
       b.kind ≡ Mapping addr len writable → IsSome (range_at addr d.region.ranges)
+  pub low : AreLow d.region.ranges
 
 -- The device does the command of the posting: its reply is told, and the session is as the device
 -- has it then.

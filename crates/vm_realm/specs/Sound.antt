@@ -50,13 +50,14 @@ use Rattle.vm_guest.specs.Process.{ProcessState, crossing, is_crossing, handle_a
 use Rattle.vm_guest.specs.Raw.{raw_ask, raw_errno}
 use Rattle.vm_guest.specs.declared.asked.Statement.{Statement}
 use Rattle.vm_guest.specs.declared.seat.Seat.{Seat}
+use Rattle.vm_region.specs.Region.{IsSoundJournal, AreApart}
 use Rattle.vm_script.specs.Script.{ScriptLines}
 use Rattle.vm_script.specs.declared.line.LineKind.{LineKind}
 use Rattle.vm_script.specs.declared.line.LineKind.TheVariants.{OnHandle, Raw}
 use Rattle.vm_script.specs.declared.line.RawChain.{RawChain}
 use Rattle.vm_realm.specs.World.{WorldState, statement_count, handle_count}
 use Rattle.vm_realm.specs.Left.{left_of}
-use Rattle.vm_realm.specs.Mapped.{Share, mappings_of, IsJournalOf}
+use Rattle.vm_realm.specs.Mapped.{Share, mappings_of, IsJournalOf, AreLive, AreLow}
 use Rattle.vm_realm.specs.Inner.{Inner, inner_of, driver_state, id_in, under_way, unsent_in}
 use Rattle.vm_realm.specs.Slice.{Slice, Out, slice_at, out_of, out_at, id_ahead, earlier_of, requests_of, calls_of, replies_of}
 use Rattle.vm_realm.specs.Slice.Out.{Nowhere, Asked, Kept, Told, Astray}
@@ -406,3 +407,13 @@ pub record IsWholeSlice (x : Slice) : Type 0 where
   pub log : IsSoundLog x.handle.log
   pub handle : Keeps x.handle.log x.handle.session x.handle.stage
   pub session : IfSome x.session IsSoundSession
+
+-- What the driver's and the device's own types keep, whatever is said on the link.
+pub record IsWhole (w : WorldState) : Type 0 where
+  pub driver : IsDriver w.script w.guest
+  pub slices : (n h : ℕ) → IsHandle w n h → IsWholeSlice (slice_at w n h)
+  pub device : IsSoundDevice w.host.device
+  pub journal : IsSoundJournal w.host.device.region.journal
+  pub live : AreLive w.host.device.region
+  pub apart : AreApart w.host.device.region.ranges
+  pub low : AreLow w.host.device.region.ranges

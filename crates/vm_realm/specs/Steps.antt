@@ -1,5 +1,5 @@
 -- What each step does: it is the driver's part or the device's part, over the world's lists.
-use Rattle.std.specs.Prelude.{ℕ, ◌≡◌, ◌+◌, ◌-◌, ◌==◌, IsTrue, true, List, [], ◌∷◌, ◌++◌, find, Option, Some}
+use Rattle.std.specs.Prelude.{ℕ, ◌≡◌, ◌+◌, ◌-◌, ◌==◌, IsTrue, true, List, [], ◌∷◌, ◌++◌, find, Option, Some, Bool, false, not, ◌&&◌}
 use Rattle.std.specs.Option.{option_to_list}
 use Rattle.vm_job.specs.Entry.{IsOf}
 use Rattle.vm_job.specs.Job.{JobParts, DoneParts, CameBack, HasPicture}
@@ -7,7 +7,7 @@ use Rattle.vm_job.specs.declared.job_out.JobOut.{JobOut}
 use Rattle.vm_lease.specs.Lease.{LeaseParts, CameBackDone}
 use Rattle.vm_lease.specs.declared.lease_out.LeaseOut.{LeaseOut}
 use Rattle.vm_link.specs.declared.link.Turn.{Turn}
-use Rattle.vm_link.specs.declared.link.Turn.TheVariants.{Did}
+use Rattle.vm_link.specs.declared.link.Turn.TheVariants.{Did, Idle}
 use Rattle.vm_log.specs.declared.leased.Leased.{Leased}
 use Rattle.vm_wire.specs.declared.delivery.Delivery.{Delivery}
 use Rattle.vm_device.specs.Device.{DeviceState}
@@ -132,6 +132,25 @@ Does (GiveBack n) w w' = DoesGiveBack n w w'
 -- which nothing tells.
 abbrev pub Steps : WorldState → Step → WorldState → Type 0
 Steps w s w' = (is_enabled w s ≡ true) × Does s w w'
+
+-- a job or a lease goes out, or comes back: such a step has a call of its own
+abbrev pub hands_over : Step → Bool
+hands_over (Issue n) = false
+hands_over Execute = false
+hands_over (Resume session) = false
+hands_over (Begin session) = true
+hands_over (Finish number) = true
+hands_over Announce = false
+hands_over Collect = false
+hands_over Pump = false
+hands_over (Lease n) = true
+hands_over (GiveBack n) = true
+
+-- A step that was done leads from the one world to the other. Nothing is done exactly where the
+-- step may not come next, or has a call of its own.
+abbrev pub Turns : Turn → WorldState → Step → WorldState → Type 0
+Turns Did w s w' = (hands_over s ≡ false) × Steps w s w'
+Turns Idle w s w' = ((is_enabled w s && not (hands_over s)) ≡ false) × (w' ≡ w)
 
 -- each of the steps may come next in its place, and they lead from the one world to the other
 abbrev pub Leads : WorldState → List Step → WorldState → Type 0

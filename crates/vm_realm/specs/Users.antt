@@ -1,7 +1,8 @@
--- The user's own memories stay in the pages in which they were made, wherever they are.
+-- The user's own memories stay in the pages in which they were made, wherever they are; and each
+-- memory is one that can be written.
 use Rattle.std.specs.Prelude.{ℕ, ◌≡◌, List, All, Contains, length, take, Some}
 use Rattle.std.specs.List.{filter_map}
-use Rattle.vm_frame.specs.Mem.{mem_rest}
+use Rattle.vm_frame.specs.Mem.{mem_bytes, mem_rest}
 use Rattle.vm_frame.specs.declared.mem.Held.{Held}
 use Rattle.vm_frame.specs.declared.mem.Mem.{Mem}
 use Rattle.vm_frame.specs.declared.mem.Mem.TheVariants.{OfUser}
@@ -21,11 +22,19 @@ use Rattle.vm_realm.specs.Places.{told_state, stopped_by, queued_held, job_held}
 use Rattle.vm_realm.specs.Slice.{Slice}
 use Rattle.vm_realm.specs.Slice.Out.{Asked, Told}
 
--- where the number is that of a user's memory, this is one in the pages in which it was made
-abbrev pub IsUsers : LocalState → ℕ → Mem → Type 0
-IsUsers s m mem =
-    (b : Bound) (line off : ℕ) → Contains s.bound b → b.memory ≡ m → b.kind ≡ User line off →
-    mem_rest mem ≡ mem_rest (OfUser (user_memory line (length (bytes_of s m)) off))
+-- other bytes, as many as it has, can be in it where it lies
+abbrev pub CanHold : Mem → Type 0
+CanHold mem =
+    (bytes : List ℕ) → length bytes ≡ length (mem_bytes mem) →
+    (new : Mem) × (mem_bytes new ≡ bytes) × (mem_rest new ≡ mem_rest mem)
+
+-- Where the number is that of a user's memory, this is one in the pages in which it was made; and
+-- it is one that can be written, whichever it is.
+pub record IsUsers (s : LocalState) (m : ℕ) (mem : Mem) : Type 0 where
+  pub pages : (b : Bound) (line off : ℕ) → Contains s.bound b → b.memory ≡ m →
+      b.kind ≡ User line off →
+      mem_rest mem ≡ mem_rest (OfUser (user_memory line (length (bytes_of s m)) off))
+  pub holds : CanHold mem
 
 abbrev pub AreUsers : LocalState → List Held → Type 0
 AreUsers s held = All (λ h. IsUsers s (memory_at s h.queue h.index) h.mem) held
