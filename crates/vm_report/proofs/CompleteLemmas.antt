@@ -24,10 +24,11 @@ use Rattle.vm_script.proofs.WordLemmas.{is_whole, piece_then}
 use Rattle.vm_report.specs.declared.draft.Draft.{Draft}
 use Rattle.vm_report.specs.declared.draft.Place.{Place}
 use Rattle.vm_report.specs.declared.draft.Place.TheVariants.{Opening, Log, RawHead, Raws, Region, Wire, End}
-use Rattle.vm_rest_guest.specs.Guest.{process_limit}
+use Rattle.vm_script.specs.Drafts.{process_limit}
 use Rattle.vm_report.specs.Logs.{HandleLog, RawLog, Logs}
 use Rattle.vm_report.specs.Text.{reply_words, is_kind_of, call_text, journal_line, head_text, raw_text, text_of, Words, reads, all_read}
-use Rattle.vm_report.specs.Printed.{FitsHandle, FitsRaw, FitsReply, FitsEntry, FitsJournal, IsDigest, IsEcho, IsRising, AreRawWords, IsPrintedWith, IsPrinted, raw_in}
+use Rattle.vm_script.specs.Words.{IsEcho}
+use Rattle.vm_report.specs.Printed.{FitsHandle, FitsRaw, FitsReply, FitsEntry, FitsJournal, IsDigest, IsRising, AreRawWords, IsPrintedWith, IsPrinted, raw_in}
 use Rattle.vm_report.specs.Reading.{chain_told, refusal_told, step_told, closed, begins, may_end, at_place, headed, fresh, with_entry, with_raw, raw_told, reply_at, with_answer, with_journal, wired, with_words, with_line, with_lines, nothing, finished, read}
 use Rattle.vm_report.proofs.WordLemmas.{both, decimal_digits}
 use Rattle.vm_report.proofs.PieceLemmas.{equals_at}

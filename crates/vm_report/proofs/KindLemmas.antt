@@ -73,7 +73,7 @@ taken false x t e = absurd (none-some t e)
 same_as : (a b : Reply) → same_reply a b ≡ true → b ≡ a
 same_as a b same = sym ((same_reply_decides a b).0 same)
 
-answer : (o : Option Errno) (row : Row) (s t : LocalState) (reply : Reply) → answered o row s reply ≡ Some t → Answer o row reply
+pub answer : (o : Option Errno) (row : Row) (s t : LocalState) (reply : Reply) → answered o row s reply ≡ Some t → Answer o row reply
 answer (Some e) row s t reply is = IsRefusal e (same_as (Refused e) reply (taken (same_reply (Refused e) reply) s t is))
 answer None row s t reply is = by_tests row.may_lack_memory (same_reply (Refused Enomem) reply) refl (not row.waits) (same_reply row.reply reply) refl is
   where

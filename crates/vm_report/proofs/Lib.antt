@@ -1,10 +1,13 @@
 pub mod BodyLemmas
 pub mod CodeLemmas
 pub mod CompleteLemmas
+pub mod DigestLemmas
 pub mod KindLemmas
+pub mod LetterLemmas
 pub mod LineLemmas
 pub mod PartLemmas
 pub mod PieceLemmas
+pub mod PrinterLemmas
 pub mod ReadbackLemmas
 pub mod ReplyLemmas
 pub mod SayLemmas

@@ -13,10 +13,11 @@ use Rattle.vm_script.specs.declared.line.RawChain.{RawChain}
 use Rattle.vm_script.specs.Grammar.{words_in}
 use Rattle.vm_report.specs.declared.draft.Place.{Place}
 use Rattle.vm_report.specs.declared.draft.Place.TheVariants.{Opening, Log, RawHead, Raws, Region, Wire, End}
-use Rattle.vm_rest_guest.specs.Guest.{process_limit}
+use Rattle.vm_script.specs.Drafts.{process_limit}
 use Rattle.vm_report.specs.Logs.{HandleLog, RawLog, Logs}
 use Rattle.vm_report.specs.Text.{entries_text, head_text, handle_text, handles_text, raw_text, raws_text, process_text, journal_line, text_of, Words, reads, all_read}
-use Rattle.vm_report.specs.Printed.{FitsHandle, FitsRaw, FitsEntry, FitsJournal, IsDigest, IsEcho, IsRising, AreRawWords, raw_in}
+use Rattle.vm_script.specs.Words.{IsEcho}
+use Rattle.vm_report.specs.Printed.{FitsHandle, FitsRaw, FitsEntry, FitsJournal, IsDigest, IsRising, AreRawWords, raw_in}
 use Rattle.vm_report.specs.Reading.{closed, begins, may_end}
 use Rattle.vm_report.proofs.BodyLemmas.{flat_grown, AtMost, RawsAtMost, RawsBelow, handles_snoc, handles_none, any_none, raws_head, raws_same, raws_first, raws_next, lengths, all_read_snoc}
 

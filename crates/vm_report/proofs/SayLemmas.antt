@@ -24,7 +24,8 @@ use Rattle.vm_script.proofs.StatementLemmas.{statement_is}
 use Rattle.vm_script.proofs.WordLemmas.{is_whole, is_word as vm_word, words_are_words, rejoin, piece_last, pieces_whole}
 use Rattle.vm_report.specs.Logs.{HandleLog}
 use Rattle.vm_report.specs.Text.{address_text, reply_words, is_kind_of, call_text, session_text, head_text, journal_line}
-use Rattle.vm_report.specs.Printed.{FitsReply, FitsJournal, FitsEntry, IsDigest, IsEcho, raw_in}
+use Rattle.vm_script.specs.Words.{IsEcho}
+use Rattle.vm_report.specs.Printed.{FitsReply, FitsJournal, FitsEntry, IsDigest, raw_in}
 use Rattle.vm_report.specs.Reading.{is_space, count_told, address_told, reply_told, is_word, if_fine, statement_told, entry_told, call_told, chain_told, session_told, step_told, fresh, head_told, process_told, map_told, drop_told, digest_told}
 use Rattle.vm_report.proofs.WordLemmas.{same_word, word_same, both, decimal_digits}
 use Rattle.vm_report.proofs.ReplyLemmas.{map_gave, then_gave, two_gave, if_gave, count_fits, count_again, bytes_fit, bytes_again, address_fits, address_again, reply_fits, reply_again}

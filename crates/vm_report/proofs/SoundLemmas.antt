@@ -18,10 +18,11 @@ use Rattle.vm_script.proofs.WordLemmas.{is_whole, pieces_whole}
 use Rattle.vm_report.specs.declared.draft.Draft.{Draft}
 use Rattle.vm_report.specs.declared.draft.Place.{Place}
 use Rattle.vm_report.specs.declared.draft.Place.TheVariants.{Opening, Log, RawHead, Raws, Region, Wire, End}
-use Rattle.vm_rest_guest.specs.Guest.{process_limit}
+use Rattle.vm_script.specs.Drafts.{process_limit}
 use Rattle.vm_report.specs.Logs.{HandleLog, Logs}
 use Rattle.vm_report.specs.Text.{call_text, journal_line, head_text, raw_text}
-use Rattle.vm_report.specs.Printed.{FitsHandle, FitsEntry, FitsJournal, IsDigest, IsEcho, IsPrinted, raw_in}
+use Rattle.vm_script.specs.Words.{IsEcho}
+use Rattle.vm_report.specs.Printed.{FitsHandle, FitsEntry, FitsJournal, IsDigest, IsPrinted, raw_in}
 use Rattle.vm_report.specs.Reading.{is_space, words_of, last_equals, call_told, chain_told, refusal_told, step_told, head_told, process_told, map_told, drop_told, digest_told, count_told, closed, begins, may_end, at_place, with_handle, with_raws, with_entry, step_at, with_raw, raw_told, reply_at, with_answer, with_region, with_journal, wired, with_wire, with_end, with_words, with_line, with_lines, nothing, finished_at, finished, read}
 use Rattle.vm_report.proofs.WordLemmas.{same_word, both}
 use Rattle.vm_report.proofs.PieceLemmas.{words_joined, lines_joined, some_pieces, pieces_all, equals_splits}

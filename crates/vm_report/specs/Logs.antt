@@ -1,12 +1,10 @@
 -- What a run leaves: each handle's log, each raw line's, the region's journal, and the digest of
 -- what crossed.
-use Rattle.std.specs.Prelude.{ℕ, ◌+◌, List, [], ◌∷◌, ◌++◌, Option, map}
+use Rattle.std.specs.Prelude.{ℕ, List, Option, map}
 use Rattle.v4l_const.specs.declared.errno.Errno.{Errno}
 use Rattle.vm_local.specs.declared.entry.Entry.{Entry}
 use Rattle.vm_region.specs.declared.entry.RegionEntry.{RegionEntry}
 use Rattle.vm_script.specs.declared.line.RawChain.{RawChain}
-use Rattle.vm_script.specs.Script.{ProcessLines}
-use Rattle.vm_rest_handle.specs.Handle.{HandleState}
 
 -- One handle: its process, its name, the session's id where an open was answered ok, and its log.
 pub record HandleLog : Type 0 where
@@ -32,20 +30,3 @@ pub record Logs : Type 0 where
 
 abbrev pub ids_of : Logs → List (Option ℕ)
 ids_of logs = map (λ h. h.session) logs.handles
-
--- ---- the logs of processes' handles
-
--- a process's handles with their names, in order
-abbrev pub handle_logs : ℕ → List (List ℕ) → List HandleState → List HandleLog
-handle_logs process [] handles = []
-handle_logs process (name ∷ names) [] = []
-handle_logs process (name ∷ names) (h ∷ hs) =
-    record { process = process; name = name; session = h.session; entries = h.entries } ∷
-    handle_logs process names hs
-
--- the handles of the processes from this number on, in order
-abbrev pub process_logs : ℕ → List ProcessLines → List (List HandleState) → List HandleLog
-process_logs process [] handles = []
-process_logs process (p ∷ ps) [] = []
-process_logs process (p ∷ ps) (hs ∷ rest) =
-    handle_logs process p.handles hs ++ process_logs (process + 1) ps rest

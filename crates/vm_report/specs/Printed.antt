@@ -1,6 +1,6 @@
 -- Which logs a text tells: those that it is printed of, with all in its range and in printed order.
 use Rattle.std.specs.Prelude.{ℕ, ◌≡◌, ◌≤◌, ◌<◌, ◌^◌, true, ◌&&◌, List, [], ◌∷◌, length, map, Option, Some, None, IfSome, codes, if◌then◌else◌}
-use Rattle.std.specs.List.{AllByRecursion, join_with_byte, find}
+use Rattle.std.specs.List.{AllByRecursion, find}
 use Rattle.std.specs.Option.{option_map, option_and_then}
 use Rattle.std.specs.Str.{bytes_eq}
 use Rattle.hex.specs.Hex.{IsBytes}
@@ -11,12 +11,13 @@ use Rattle.vm_local.specs.declared.reply.Reply.{Reply}
 use Rattle.vm_local.specs.declared.reply.Reply.TheVariants.{Done, Refused, Caps, Code, Format, InputName, InputIs, Count, Buf, Pages, Frame, Mapped, Bytes, Digest, Event}
 use Rattle.vm_script.specs.declared.line.RawChain.{RawChain}
 use Rattle.vm_script.specs.declared.line.RawChain.TheVariants.{Loop, Outside, Order, Zero, Addr, Indirect, Bytes as RawBytes}
-use Rattle.vm_script.specs.Grammar.{lines_in, words_in, is_name, code_in}
+use Rattle.vm_script.specs.Grammar.{words_in, is_name, code_in}
+use Rattle.vm_script.specs.Words.{IsEcho}
 use Rattle.vm_script.specs.Places.{between_in, bytes_in}
 use Rattle.vm_script.specs.Reading.{Fits32}
 use Rattle.vm_region.specs.declared.entry.RegionEntry.{RegionEntry}
 use Rattle.vm_region.specs.declared.entry.RegionEntry.TheVariants.{Map, Drop}
-use Rattle.vm_rest_guest.specs.Guest.{process_limit}
+use Rattle.vm_script.specs.Drafts.{process_limit}
 use Rattle.vm_report.specs.Logs.{HandleLog, RawLog, Logs}
 use Rattle.vm_report.specs.Text.{code_text, Words, PrintsWith}
 
@@ -28,6 +29,12 @@ Fits64 n = n < 2 ^ 64
 -- the number of four visible bytes
 abbrev pub IsCode : FourCc → Type 0
 IsCode code = code_in (code_text code) ≡ Some code.0
+
+-- the letters of the formats that a reply tells are visible
+abbrev pub HasLetters : Reply → Type 0
+HasLetters (Code code) = IsCode code
+HasLetters (Format f line size) = IsCode f.code
+HasLetters reply = Unit {0}
 
 -- the bytes of one read
 abbrev pub IsSmall : List ℕ → Type 0
@@ -124,10 +131,6 @@ AreRawWords (echo ∷ echoes) (r ∷ rs) =
     (raw_in (words_in echo) ≡ Some r.chain) × AreRawWords echoes rs
 
 -- ---- printed logs
-
--- the words of one line, joined by one space
-abbrev pub IsEcho : List ℕ → Type 0
-IsEcho text = (lines_in text ≡ text ∷ []) × (join_with_byte 32 (words_in text) ≡ text)
 
 -- the numbers never fall, and begin with this one or a greater one
 abbrev pub IsRising : ℕ → List ℕ → Type 0

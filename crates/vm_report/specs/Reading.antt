@@ -25,7 +25,7 @@ use Rattle.vm_script.specs.Words.{pieces_by, lines_in, is_empty, parts_words, na
 use Rattle.vm_script.specs.Statements.{built_statement_in}
 use Rattle.vm_region.specs.declared.entry.RegionEntry.{RegionEntry}
 use Rattle.vm_region.specs.declared.entry.RegionEntry.TheVariants.{Map, Drop}
-use Rattle.vm_rest_guest.specs.Guest.{process_limit}
+use Rattle.vm_script.specs.Drafts.{process_limit}
 use Rattle.vm_report.specs.declared.draft.Draft.{Draft}
 use Rattle.vm_report.specs.declared.draft.Place.{Place}
 use Rattle.vm_report.specs.declared.draft.Place.TheVariants.{Opening, Log, RawHead, Raws, Region, Wire, End}

@@ -17,7 +17,7 @@ use Rattle.vm_wire.specs.Records.{input_name}
 use Rattle.vm_script.specs.Grammar.{reads_as}
 use Rattle.vm_region.specs.declared.entry.RegionEntry.{RegionEntry}
 use Rattle.vm_region.specs.declared.entry.RegionEntry.TheVariants.{Map, Drop}
-use Rattle.vm_rest_guest.specs.Guest.{process_limit}
+use Rattle.vm_script.specs.Drafts.{process_limit}
 use Rattle.vm_report.specs.Logs.{HandleLog, RawLog, Logs}
 
 -- ---- the words of a reply

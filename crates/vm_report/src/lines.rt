@@ -19,7 +19,7 @@ use vm_region::RegionEntry;
 use vm_script::{RawChain, Statement, is_built_line, name_of, statement_of};
 
 /// How many processes a script has at most.
-const PROCESS_LIMIT: u32 = 16;
+pub const PROCESS_LIMIT: u32 = 16;
 
 const SPACE: u8 = b' ';
 

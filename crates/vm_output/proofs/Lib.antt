@@ -1,0 +1,4 @@
+pub mod EchoLemmas
+pub mod FitLemmas
+pub mod LentLemmas
+pub mod ReadLemmas

@@ -1,0 +1,14 @@
+//! The text of a run: the logs that its driver and its device leave, in the script's words.
+//!
+//! Begin with `text_of_run`. Its main definitions are the logs that are left of a run and the words
+//! in which they are told, in `specs/Printing.antt`.
+#![tactic(auto)]
+
+mod echoes;
+mod lent;
+mod report;
+
+pub use report::text_of_run;
+
+#[cfg(test)]
+mod tests;
