@@ -1,1 +1,4 @@
+pub mod LeaveLemmas
+pub mod HandLemmas
+pub mod GoLemmas
 pub mod ScheduleLemmas

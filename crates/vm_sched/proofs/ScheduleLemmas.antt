@@ -1,11 +1,12 @@
 -- Lemmas on the schedule's run: a step more, and the end.
 use Rattle.std.proofs.Common.{◌≡◌, ℕ, ◌<◌, Bool, true, false, List, [], ◌∷◌, Option, Some, IsSome, IfSome, IsTrue, ◌↔◌, length, slice_get, refl, sym, ap, ◌∙◌, subst, arith}
 use Rattle.std.proofs.lemmas.Option.{slice_get-get_or}
-use Rattle.vm_link.specs.declared.link.Turn.{Turn}
-use Rattle.vm_world.specs.World.{WorldState, IsDone, enabled, is_enabled, turn_by, turn_of, Turns, Steps, Leads}
-use Rattle.vm_world.specs.declared.step.Step.TheVariants.{Execute}
-use Rattle.vm_world.specs.declared.step.Step.{Step}
-use Rattle.vm_sched.specs.Schedule.{next_state, place_chosen, Chooses, Schedules, IsScheduled}
+use Rattle.vm_realm.specs.Enabled.{enabled, is_enabled}
+use Rattle.vm_realm.specs.Schedule.{next_state, place_chosen, Chooses, Schedules, IsScheduled}
+use Rattle.vm_realm.specs.Steps.{Steps, Leads}
+use Rattle.vm_realm.specs.World.{WorldState, IsDone}
+use Rattle.vm_realm.specs.declared.step.Step.{Step}
+use Rattle.vm_realm.specs.declared.step.Step.TheVariants.{Execute}
 
 -- What the schedule leads to from here it leads to from the start.
 abbrev pub LeadsOn : WorldState → ℕ → WorldState → ℕ → Type 0
@@ -35,11 +36,9 @@ pub chosen : (w : WorldState) (o : Option Step) (x place count : ℕ) (s : Step)
 chosen w o x place count s at place_is all is =
     sym (at ∙ ap (slice_get (enabled w)) (place_is ∙ ap (place_chosen x) all)) ∙ is
 
--- a step that may come next is done
-pub does : (w next : WorldState) (o : Option Step) (s : Step) (turn : Turn) → IfSome o (λ x. is_enabled w x ≡ true) → o ≡ Some s → turn ≡ turn_of w s → Turns turn w s next → Steps w s next
-does w next o s turn may is turned turns =
-    let here : is_enabled w s ≡ true = subst (λ x. IfSome x (λ y. is_enabled w y ≡ true)) is may in
-    subst (λ t. Turns t w s next) (turned ∙ ap turn_by here) turns
+-- and it may come next
+pub may_come : (w : WorldState) (o : Option Step) (s : Step) → IfSome o (λ x. is_enabled w x ≡ true) → o ≡ Some s → is_enabled w s ≡ true
+may_come w o s may is = subst (λ x. IfSome x (λ y. is_enabled w y ≡ true)) is may
 
 -- where it isn't done, a line isn't answered
 pub not_done : (w : WorldState) (b : Bool) → (IsTrue b ↔ IsDone w) → b ≡ false → IsDone w → ⊥

@@ -1,3 +1,4 @@
-pub mod World
-pub mod Sound
+pub mod Kinds
 pub mod Carried
+pub mod Calls
+pub mod Laws

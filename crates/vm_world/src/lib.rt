@@ -1,20 +1,17 @@
-//! The driver, the device and the link between them, step by step.
+//! The world: the driver, the device, and the link between them, step by step.
 //!
-//! Begin with `World`. Its main definitions are the steps, in `specs/World.antt`, and what holds
-//! between them, in `specs/Sound.antt`.
+//! Begin with `World`. What a world is over plain data, which steps may come next and what each of
+//! them does is in `vm_realm`; `specs/Carried.antt` ties it to the link's parcels.
 #![tactic(auto)]
 
+mod kind;
 mod laws;
-mod step;
+mod offers;
 mod world;
 
 pub use laws::{
-    a_beginning_keeps_slices_sound, a_run_has_at_most_12_steps_a_statement,
-    an_answer_keeps_slices_sound, logs_only_grow, no_run_stalls, steps_keep_the_world_sound,
-    steps_may_come_next_and_leave_fewer,
+    each_event_is_of_its_session, the_device_does_the_worlds_steps,
+    the_driver_does_the_worlds_steps, the_ends_have_what_they_ask, what_goes_out_leaves_the_link,
 };
-pub use step::Step;
+pub use vm_realm::Step;
 pub use world::World;
-
-#[cfg(test)]
-mod tests;

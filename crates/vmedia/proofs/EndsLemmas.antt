@@ -7,7 +7,7 @@ use Rattle.vm_script.specs.Grammar.{script_of}
 use Rattle.vmedia.specs.declared.ending.Ending.{Ending}
 use Rattle.vmedia.specs.declared.ending.Ending.TheVariants.{Ran, BadWords, BadScript, SourceFailed, SinkFailed, NoMemory}
 use Rattle.vmedia.specs.Command.{seed_in}
-use Rattle.vmedia.specs.Top.{Outside, Answers, Tells, TellsRun, TellsFault, IsWritten, WroteAll, Wrote, Ends, EndsWith, ReadsWell, status_of, usage_line, script_limit}
+use Rattle.vmedia.specs.Top.{Outside, failed, Answers, Tells, TellsRun, TellsFault, IsWritten, WroteAll, Wrote, Ends, EndsWith, ReadsWell, status_of, usage_line, script_limit}
 
 -- ---- an ending is known by its status
 
@@ -43,7 +43,7 @@ not_faulty bytes text s short reads fault = elim fault [
 module _ (words : List (List ℕ)) (before after : Outside) where
   -- ---- what was written, and the ending that goes with it
 
-  written_whole : (text : List ℕ) (told : Ending) → Tells words before.source.left told text → WroteAll before.sink after.sink text → ReadsWell before after
+  written_whole : (text : List ℕ) (told : Ending) → Tells words (failed before after) before.source.left told text → WroteAll before.sink after.sink text → ReadsWell before after
       → (told ≡ Ran → NothingLeft after.source.left) → (told ≡ BadWords → after.source.left ≡ before.source.left) → Ends words before after told
   written_whole text Ran tells wrote well read still = ((well, (text, tells, wrote)), read refl)
   written_whole text BadWords tells wrote well read still = ((well, (text, tells, wrote)), still refl)
@@ -52,7 +52,7 @@ module _ (words : List (List ℕ)) (before after : Outside) where
   written_whole text SinkFailed tells wrote well read still = absurd tells.2
   written_whole text NoMemory tells wrote well read still = absurd tells.2
 
-  pub ends_written : (text : List ℕ) (told ending : Ending) → Tells words before.source.left told text → IsWritten before.sink after.sink text told ending → ReadsWell before after
+  pub ends_written : (text : List ℕ) (told ending : Ending) → Tells words (failed before after) before.source.left told text → IsWritten before.sink after.sink text told ending → ReadsWell before after
       → (told ≡ Ran → NothingLeft after.source.left) → (told ≡ BadWords → after.source.left ≡ before.source.left) → Ends words before after ending
   ends_written text told ending tells written well read still =
       let P : Ending → Type 0 = λ e. Ends words before after e in elim written [
@@ -61,7 +61,7 @@ module _ (words : List (List ℕ)) (before after : Outside) where
       ]
 
   -- an answer to the source's bytes is one to the words that have the seed
-  tells_served : (seed : ℕ) (told : Ending) (text : List ℕ) → seed_in words ≡ Some seed → Answers seed before.source.left told text → Tells words before.source.left told text
+  tells_served : (seed : ℕ) (told : Ending) (text : List ℕ) → seed_in words ≡ Some seed → Answers seed (failed before after) before.source.left told text → Tells words (failed before after) before.source.left told text
   tells_served seed Ran text served answers = (seed, served, answers)
   tells_served seed BadWords text served answers = absurd answers
   tells_served seed BadScript text served answers = (seed, served, answers)
@@ -69,12 +69,12 @@ module _ (words : List (List ℕ)) (before after : Outside) where
   tells_served seed SinkFailed text served answers = absurd answers
   tells_served seed NoMemory text served answers = absurd answers
 
-  served_still : (seed : ℕ) (told : Ending) (text : List ℕ) → Answers seed before.source.left told text → told ≡ BadWords → after.source.left ≡ before.source.left
+  served_still : (seed : ℕ) (told : Ending) (text : List ℕ) → Answers seed (failed before after) before.source.left told text → told ≡ BadWords → after.source.left ≡ before.source.left
   served_still seed told text answers bad =
-      let P : Ending → Type 0 = λ e. Answers seed before.source.left e text in absurd (subst P bad answers)
+      let P : Ending → Type 0 = λ e. Answers seed (failed before after) before.source.left e text in absurd (subst P bad answers)
 
   -- what was written of an answer to the source's bytes
-  pub ends_served : (seed : ℕ) (text : List ℕ) (told ending : Ending) → seed_in words ≡ Some seed → Answers seed before.source.left told text → IsWritten before.sink after.sink text told ending → ReadsWell before after
+  pub ends_served : (seed : ℕ) (text : List ℕ) (told ending : Ending) → seed_in words ≡ Some seed → Answers seed (failed before after) before.source.left told text → IsWritten before.sink after.sink text told ending → ReadsWell before after
       → (told ≡ Ran → NothingLeft after.source.left) → Ends words before after ending
   ends_served seed text told ending served answers written well read =
       ends_written text told ending (tells_served seed told text served answers) written well read (served_still seed told text answers)
@@ -119,8 +119,8 @@ module _ (words : List (List ℕ)) (before after : Outside) where
   of_faulty : (e : Ending) → Ends words before after e → (bytes text : List ℕ) → IsSome (seed_in words) → before.source.left ≡ Some bytes → TellsFault bytes text
       → (Rose before.source.faults after.source.faults → ⊥) → (Rose before.sink.faults after.sink.faults → ⊥) → (status_of e ≡ 3) ⊎ (status_of e ≡ 6)
   of_faulty Ran ends bytes text served tells fault source_well sink_well =
-      let P : Option (List ℕ) → Type 0 = λ o. IfSome o (λ b. TellsRun ends.0.1.1.0 b ends.0.1.0) in
-      let runs : TellsRun ends.0.1.1.0 bytes ends.0.1.0 = subst P tells ends.0.1.1.2 in
+      let P : Option (List ℕ) → Type 0 = λ o. IfSome o (λ b. TellsRun ends.0.1.1.0 (failed before after) b ends.0.1.0) in
+      let runs : TellsRun ends.0.1.1.0 (failed before after) bytes ends.0.1.0 = subst P tells ends.0.1.1.2 in
       absurd (not_faulty bytes text runs.1.0 runs.0 runs.1.1 fault)
   of_faulty BadWords ends bytes text served tells fault source_well sink_well = absurd (not_served (seed_in words) served ends.0.1.1.0)
   of_faulty BadScript ends bytes text served tells fault source_well sink_well = inl refl
@@ -145,13 +145,13 @@ module _ (words : List (List ℕ)) (before after : Outside) where
     pub ends_bad_words : seed_in words ≡ None → (r ≡ 2) ⊎ (r ≡ 5)
     ends_bad_words bad = either 2 5 (of_bad_words ends.0 ends.2 bad)
 
-    pub ends_run : r ≡ 0 → Wrote before.sink.held after.sink.held (Tells words before.source.left Ran)
+    pub ends_run : r ≡ 0 → Wrote before.sink.held after.sink.held (Tells words (failed before after) before.source.left Ran)
     ends_run is = let e = ends_as Ran is in (e.0.1.0, e.0.1.1, e.0.1.2.0)
 
     pub ends_read : r ≡ 0 → NothingLeft after.source.left
     ends_read is = (ends_as Ran is).1
 
-    pub ends_script : r ≡ 3 → Wrote before.sink.held after.sink.held (Tells words before.source.left BadScript)
+    pub ends_script : r ≡ 3 → Wrote before.sink.held after.sink.held (Tells words (failed before after) before.source.left BadScript)
     ends_script is = let e = ends_as BadScript is in (e.1.0, e.1.1, e.1.2.0)
 
     pub ends_source : r ≡ 4 → Rose before.source.faults after.source.faults × (after.sink.held ≡ before.sink.held)
@@ -161,7 +161,7 @@ module _ (words : List (List ℕ)) (before after : Outside) where
     ends_reads_well other = well_read ends.0 ends.2 (λ is. other (ends.1 ∙ is))
 
     pub ends_sink : r ≡ 5 → Rose before.sink.faults after.sink.faults
-        × ((told : Ending) × (text : List ℕ) × Tells words before.source.left told text × PartAppended before.sink.held after.sink.held text)
+        × ((told : Ending) × (text : List ℕ) × Tells words (failed before after) before.source.left told text × PartAppended before.sink.held after.sink.held text)
     ends_sink is = let e = ends_as SinkFailed is in (e.1.3.0, (e.1.0, e.1.1, e.1.2, e.1.3.1))
 
     pub ends_writes_well : (r ≡ 5 → ⊥) → after.sink.faults ≡ before.sink.faults

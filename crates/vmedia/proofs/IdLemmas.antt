@@ -3,7 +3,7 @@ use Rattle.std.proofs.Common.{◌≡◌, ◌<◌, ℕ, zero, suc, ◌+◌, Bool,
 use Rattle.std.proofs.lemmas.Bool.Decides.{nat_tests}
 use Rattle.std.proofs.lemmas.List.{get_or_append_left, get_or-append-add, length-append}
 use Rattle.std.proofs.lemmas.Option.{none-some}
-use Rattle.vm_rest_handle.specs.Ids.{AreNumbersBelow}
+use Rattle.vmedia.specs.Run.{AreNumbersBelow}
 
 abbrev Row : Type 0
 Row = List (Option ℕ)

@@ -1,37 +1,49 @@
 -- Lemmas on a run that is done: its logs answer the script's lines, and are those of local handles.
-use Rattle.std.proofs.Common.{◌≡◌, ℕ, zero, suc, ◌+◌, ◌<◌, ◌≤◌, ◌==◌, ◌&&◌, Bool, true, false, List, [], ◌∷◌, ◌++◌, Option, Some, None, Result, Ok, Err, is_some, length, take, get_or, map, flat_map, refl, sym, ap, ◌∙◌, subst, arith, All, IfOk, eqb-true}
-use Rattle.std.proofs.lemmas.List.{take_all, map-append, get_or_default, get_or-map}
+use Rattle.std.proofs.Common.{◌≡◌, ◌≢◌, ℕ, zero, suc, ◌+◌, ◌<◌, ◌≤◌, ◌==◌, ◌&&◌, ◌⊎◌, ◌^◌, ◌-◌, Bool, true, false, List, [], ◌∷◌, ◌++◌, Option, Some, None, IsSome, Result, Ok, Err, is_some, length, get_or, map, flat_map, refl, sym, ap, ◌∙◌, subst, arith, All, IfOk, inl, inr, if◌then◌else◌}
+use Rattle.std.specs.Prelude.{sum_by, slice_get}
+use Rattle.std.specs.Option.{option_and_then}
+use Rattle.std.proofs.lemmas.List.{map-append}
+use Rattle.std.proofs.lemmas.List.Sums.{sum_by-cons, sum_by-append}
 use Rattle.std.proofs.lemmas.List.Elements.{All-append}
 use Rattle.v4l_const.specs.declared.model.Model.{Model}
+use Rattle.vm_local.specs.declared.entry.Entry.{Entry}
 use Rattle.vm_local.specs.Log.{IsLegal}
-use Rattle.vm_rest_handle.specs.Handle.{HandleState, has_opened}
-use Rattle.vm_rest_handle.specs.Ids.{AreNumbersBelow}
-use Rattle.vm_script.specs.Script.{ProcessLines, ScriptLines}
+use Rattle.vm_handle.specs.Handle.{HandleState, has_opened}
+use Rattle.vm_region.specs.Region.{IsSoundJournal}
+use Rattle.vm_script.specs.Drafts.{process_limit}
 use Rattle.vm_script.specs.Lines.{lines_of, calls_of}
+use Rattle.vm_script.specs.Reading.{IsReadScript, IsReadProcess, IsReadKind, IsReadLine}
+use Rattle.vm_script.specs.Script.{ProcessLines, ScriptLines}
 use Rattle.vm_script.specs.declared.line.Line.{Line}
-use Rattle.vm_rest_guest.specs.declared.asked.Asked.{Asked}
-use Rattle.vm_rest_guest.specs.declared.status.Status.{Status}
-use Rattle.vm_rest_guest.specs.declared.status.Status.TheVariants.{AtRest, Crossing}
-use Rattle.vm_script.specs.Grammar.{script_of}
-use Rattle.vm_script.specs.Reading.{IsReadProcess}
-use Rattle.vm_script.proofs.ScriptLemmas.{read_process}
-use Rattle.v4l_const.specs.declared.model.Model.TheVariants.{Capture}
-use Rattle.vm_rest_guest.specs.Guest.{GuestState, IsDriver, IsDone as IsGuestDone, IsReadScript, process_at, process_in, no_process, no_lines, lines_at}
-use Rattle.vm_rest_guest.specs.Orderly.{IsOrderly, AnswersLines}
-use Rattle.vm_rest_guest.specs.Process.{ProcessState, is_done, is_at_rest, crossing, handle_in, handle_at, no_handle}
-use Rattle.vm_rest_guest.specs.Asking.{statements_of}
-use Rattle.vm_world.specs.World.{WorldState, IsDone, IsOpening}
-use Rattle.vm_world.specs.declared.step.Step.{Step}
-use Rattle.vm_world.specs.Sound.{Seat, IsSoundOf, IsSoundProcess, IsResting, no_seat, seat_at}
-use Rattle.vm_world.proofs.SliceLemmas.{resting_is}
-use Rattle.vm_sched.specs.Schedule.{Schedules, IsScheduled, next_state}
-use Rattle.vm_report.specs.Logs.{HandleLog, Logs, handle_logs, process_logs}
-use Rattle.vm_report.specs.Text.{text_of}
-use Rattle.vmedia.specs.Printing.{handles_of, logs_of_guest, words_of}
-use Rattle.vmedia.specs.Run.{Part, parts_from, parts_of, part_answered, IsLocalRun, AreLogsOf, IsRunBetween, IsRun, logs_of_world}
-use Rattle.vmedia.proofs.FitLemmas.{Fits, driver_fits, driver_legal}
+use Rattle.vm_script.specs.declared.line.LineKind.{LineKind}
+use Rattle.vm_script.specs.declared.line.LineKind.TheVariants.{OnHandle, Raw}
+use Rattle.vm_guest.specs.Guest.{GuestState, IsDone as IsGuestDone, process_at, process_in, handle_named}
+use Rattle.vm_guest.specs.Orderly.{IsDriver, no_lines, lines_at}
+use Rattle.vm_guest.specs.Process.{ProcessState, is_done, is_at_rest, is_crossing, crossing_call, current_call, handle_in, handle_at, some_if}
+use Rattle.vm_guest.specs.declared.asked.Asked.{Asked}
+use Rattle.vm_guest.specs.declared.status.Status.{Status}
+use Rattle.vm_guest.specs.declared.status.Status.TheVariants.{AtRest, Crossing, Blocked, Lent}
+use Rattle.vm_realm.specs.declared.step.Step.{Step}
+use Rattle.vm_realm.specs.Inner.{Inner}
+use Rattle.vm_realm.specs.Left.{bad_in, bad_count, messages_of}
+use Rattle.vm_realm.specs.Mapped.{Mapping, Share, mappings_of, DealsFrom, Deals}
+use Rattle.vm_realm.specs.Schedule.{Schedules, IsScheduled, next_state}
+use Rattle.vm_realm.specs.Slice.{Slice, Out, slice_at, out_at, out_of, is_on, id_ahead}
+use Rattle.vm_realm.specs.Slice.Out.{Nowhere}
+use Rattle.vm_realm.specs.Sound.{IsSound, IsSoundBy, IsHandle, AgreeOnIds, IsOut, id_at as id_ahead_at, inner_at, share_of, shares_from, all_shares}
+use Rattle.vm_realm.specs.World.{WorldState, IsDone, IsOpening, handles_of}
+use Rattle.vm_realm.proofs.EachLemmas.{runs_end}
+use Rattle.vm_realm.proofs.RunnableLemmas.{read_runnable}
+use Rattle.vm_sched.proofs.ScheduleLemmas.{schedule_leads}
+use Rattle.vm_sched.specs.Hands.{FailsWithin}
+use Rattle.vm_report.proofs.CompleteLemmas.{one_run}
+use Rattle.vm_report.specs.Logs.{HandleLog, Logs}
+use Rattle.vm_report.specs.Printed.{IsPrinted, IsPrintedWith}
+use Rattle.vm_output.specs.Printing.{handle_log, handle_logs, process_logs, process_raws, raw_log, words_of}
+use Rattle.vm_output.proofs.FitLemmas.{all_taken, process_done, driver_legal, answers_all}
+use Rattle.vm_output.proofs.ReadLemmas.{Answers, no_raws}
+use Rattle.vmedia.specs.Run.{Part, parts_from, parts_of, part_answered, errno_due, raws_due, raws_of, IsLocalRun, AreNumbersBelow, AreLogsOf, AreTold, Failures, FailedFor, bad_among, IsRunBetween, IsRun, logs_of_world}
 use Rattle.vmedia.proofs.IdLemmas.{id_at, joined, AreNumbersIn, numbers_joined}
-use Rattle.vmedia.proofs.PrinterLemmas.{Answers, IsAnswered, kinds_of, all_processes_read}
 
 -- ---- every line is answered
 
@@ -40,70 +52,48 @@ pub scheduled_done : (steps : List Step) (w : WorldState) (x : ℕ) (w' : WorldS
 scheduled_done [] w x w' runs = subst IsDone (sym runs.1) runs.0
 scheduled_done (s ∷ ss) w x w' runs = scheduled_done ss runs.2.0 (next_state x) w' runs.2.2
 
-rests_where : (status : Status) (a n : ℕ) → (is_at_rest status && (a == n)) ≡ true → (is_at_rest status ≡ true) × (a ≡ n)
-rests_where AtRest a n done = (refl, eqb-true a n done)
-rests_where Crossing a n done = cc
+rests : (status : Status) (b : Bool) → (is_at_rest status && b) ≡ true → is_crossing status ≡ false
+rests AtRest b done = refl
+rests Crossing b done = cc
+rests Blocked b done = cc
+rests Lent b done = cc
 
-length_statements : (lines : List Line) → length (statements_of lines) ≡ length lines
-length_statements [] = refl
-length_statements (l ∷ ls) = ap (λ k. suc k) (length_statements ls)
+none_crosses : (p : ProcessState) → is_done p ≡ true → crossing_call p ≡ None
+none_crosses p done = ap (λ b. some_if b (current_call p)) (rests p.status (p.answered == length p.statements) done)
 
--- a process of which every statement is answered
-record IsRested (p : ProcessState) (lines : ProcessLines) : Type 0 where
-  pub none : crossing p ≡ None
-  pub all : take p.answered lines.lines ≡ lines.lines
+nowhere_by : (o : Option Asked) (h : ℕ) (out : Out) → o ≡ None → (if is_on o h then out else Nowhere) ≡ Nowhere
+nowhere_by o h out none = ap (λ x. if is_on x h then out else Nowhere) none
 
-rested : (model : Model) (lines : ProcessLines) (p : ProcessState) → IsOrderly model lines p → is_done p ≡ true → IsRested p lines
-rested model lines p orderly done =
-    let where_it_is = rests_where p.status p.answered (length p.statements) done in
-    let count : length p.statements ≡ length lines.lines = ap length orderly.statements ∙ length_statements lines.lines in
-    let all_of : length lines.lines ≤ p.answered = (let same = where_it_is.1 in omega (arith, same, count)) in
-    let rests = where_it_is.0 in
-    record { none = rw rests refl; all = take_all p.answered lines.lines all_of }
-
-process_done : (g : GuestState) (n : ℕ) → IsGuestDone g → n < length g.processes → is_done (process_at g n) ≡ true
-process_done g n done within = done n no_process within
-
--- each handle of a process answers all lines on it
-answers_all : (model : Model) (lines : ProcessLines) (p : ProcessState) (h : ℕ) → IsOrderly model lines p → is_done p ≡ true → h < length p.handles
-    → calls_of (handle_in p.handles h).entries ≡ lines_of h lines.lines
-answers_all model lines p h orderly done within =
-    let each = orderly.each h within in
-    let all = (rested model lines p orderly done).all in
-    let P : List Line → Type 0 = λ ls. calls_of (handle_in p.handles h).entries ≡ lines_of h ls in
-    subst P all each.calls
-
-answered : (model : Model) (lines : ProcessLines) (p : ProcessState) → IsOrderly model lines p → is_done p ≡ true → IsAnswered lines p.handles
-answered model lines p orderly done = record {
-  named = orderly.named;
-  answers = λ h within. record {
-    kinds = (let own = orderly.each h within in kinds_of (handle_in p.handles h).model (handle_in p.handles h).entries own.legal);
-    calls = answers_all model lines p h orderly done within;
-  };
-  read = orderly.read.each;
-}
+-- no call is out
+nothing_out : (w : WorldState) (n h : ℕ) → IsDone w → n < length w.guest.processes → out_at w n h ≡ Nowhere
+nothing_out w n h done within = nowhere_by (crossing_call (process_at w.guest n)) h (out_of w n) (none_crosses (process_at w.guest n) (process_done w.guest n done within))
 
 -- ---- what the logs answer
 
 answers_from : (process h : ℕ) (names : List (List ℕ)) (handles : List HandleState) (lines : List Line) → length handles ≡ length names
-    → ((k : ℕ) → k < length handles → calls_of (handle_in handles k).entries ≡ lines_of (h + k) lines)
+    → ((k : ℕ) → k < length handles → calls_of (handle_in handles k).log.entries ≡ lines_of (h + k) lines)
     → map part_answered (handle_logs process names handles) ≡ parts_from process h names lines
 answers_from process h [] handles lines same each = refl
 answers_from process h (name ∷ names) [] lines same each = cc
 answers_from process h (name ∷ names) (x ∷ xs) lines same each =
     let at : h + 0 ≡ h = omega arith in
-    let P : ℕ → Type 0 = λ n. calls_of x.entries ≡ lines_of n lines in
-    let first : calls_of x.entries ≡ lines_of h lines = subst P at (each 0 (omega arith)) in
+    let P : ℕ → Type 0 = λ n. calls_of x.log.entries ≡ lines_of n lines in
+    let first : calls_of x.log.entries ≡ lines_of h lines = subst P at (each 0 (omega arith)) in
     let rest : map part_answered (handle_logs process names xs) ≡ parts_from process (h + 1) names lines =
     answers_from process (h + 1) names xs lines (omega (arith, same)) (λ k within.
     (let next : h + suc k ≡ h + 1 + k = omega arith in
-    let Q : ℕ → Type 0 = λ n. calls_of (handle_in xs k).entries ≡ lines_of n lines in
+    let Q : ℕ → Type 0 = λ n. calls_of (handle_in xs k).log.entries ≡ lines_of n lines in
     subst Q next (each (suc k) (omega (arith, within))))) in
     rw (first, rest) refl
 
+-- a process whose handles answer the lines on them
+record IsAnswering (p : ProcessLines) (s : ProcessState) : Type 0 where
+  named : length s.handles ≡ length p.handles
+  calls : (h : ℕ) → h < length s.handles → calls_of (handle_in s.handles h).log.entries ≡ lines_of h p.lines
+
 answers_of : (process : ℕ) (ps : List ProcessLines) (states : List ProcessState) → length states ≡ length ps
-    → ((n : ℕ) → n < length states → IsAnswered (get_or ps n no_lines) (process_in states n).handles)
-    → map part_answered (process_logs process ps (map (λ p. p.handles) states)) ≡ parts_of process ps
+    → ((n : ℕ) → n < length states → IsAnswering (get_or ps n no_lines) (process_in states n))
+    → map part_answered (process_logs process ps states) ≡ parts_of process ps
 answers_of process [] states same each = refl
 answers_of process (p ∷ ps) [] same each = cc
 answers_of process (p ∷ ps) (s ∷ ss) same each =
@@ -111,49 +101,59 @@ answers_of process (p ∷ ps) (s ∷ ss) same each =
     let first : map part_answered (handle_logs process p.handles s.handles) ≡ parts_from process 0 p.handles p.lines =
     answers_from process 0 p.handles s.handles p.lines own.named (λ k within.
     (let at : k ≡ 0 + k = omega arith in
-    let P : ℕ → Type 0 = λ n. calls_of (handle_in s.handles k).entries ≡ lines_of n p.lines in
-    subst P at (own.answers k within).calls)) in
-    let rest : map part_answered (process_logs (process + 1) ps (map (λ q. q.handles) ss)) ≡ parts_of (process + 1) ps =
+    let P : ℕ → Type 0 = λ n. calls_of (handle_in s.handles k).log.entries ≡ lines_of n p.lines in
+    subst P at (own.calls k within))) in
+    let rest : map part_answered (process_logs (process + 1) ps ss) ≡ parts_of (process + 1) ps =
     answers_of (process + 1) ps ss (omega (arith, same)) (λ n within. each (suc n) (omega (arith, within))) in
-    map-append part_answered (handle_logs process p.handles s.handles) (process_logs (process + 1) ps (map (λ q. q.handles) ss)) ∙ rw (first, rest) refl
+    map-append part_answered (handle_logs process p.handles s.handles) (process_logs (process + 1) ps ss) ∙ rw (first, rest) refl
+
+each_answers : (script : ScriptLines) (g : GuestState) → IsDriver script g → IsGuestDone g
+    → (n : ℕ) → n < length g.processes → IsAnswering (get_or script.processes n no_lines) (process_in g.processes n)
+each_answers script g d done n within =
+    let orderly = d.orderly n within in
+    record {
+      named = orderly.named;
+      calls = λ h inside. (answers_all script.model (lines_at script n) (process_at g n) h orderly (process_done g n done within) inside).calls;
+    }
+
+-- ---- no script that is read has a raw line
+
+no_raws_due : (names : List (List ℕ)) (process : ℕ) (ls : List Line) → ((i : ℕ) (d : Line) → i < length ls → IsReadLine names (get_or ls i d)) → raws_due process ls ≡ []
+no_raws_due names process [] read = refl
+no_raws_due names process (l ∷ ls) read =
+    by_kind l.what (read 0 l (omega arith)).what (no_raws_due names process ls (λ i d within. read (suc i) d (omega (arith, within))))
+  where
+    by_kind : (what : LineKind) → IsReadKind names l.echo what → raws_due process ls ≡ [] → raw_log process l.number what (errno_due what) ++ raws_due process ls ≡ []
+    by_kind (OnHandle h call) this rest = rest
+    by_kind (Raw chain) this rest = absurd this
+
+no_raws_of : (process : ℕ) (ps : List ProcessLines) → ((i : ℕ) (d : ProcessLines) → i < length ps → IsReadProcess (get_or ps i d)) → raws_of process ps ≡ []
+no_raws_of process [] read = refl
+no_raws_of process (p ∷ ps) read =
+    let own : IsReadProcess p = read 0 p (omega arith) in
+    rw (no_raws_due p.handles process p.lines (λ i d within. own.each i d within), no_raws_of (process + 1) ps (λ i d within. read (suc i) d (omega (arith, within)))) refl
 
 -- ---- each log is a local run
 
--- of a handle
-record IsLocal (model : Model) (h : HandleState) : Type 0 where
-  pub legal : IsLegal model h.entries
-  pub session : is_some h.session ≡ has_opened h.entries
-
 local_logs : (model : Model) (process : ℕ) (names : List (List ℕ)) (handles : List HandleState)
-    → ((k : ℕ) → k < length handles → IsLocal model (handle_in handles k)) → All (IsLocalRun model) (handle_logs process names handles)
+    → ((k : ℕ) → k < length handles → IsLegal model (handle_in handles k).log.entries × (is_some (handle_in handles k).session ≡ has_opened (handle_in handles k).log.entries))
+    → All (IsLocalRun model) (handle_logs process names handles)
 local_logs model process [] handles each k d within = absurd (omega (arith, within))
 local_logs model process (name ∷ names) [] each k d within = absurd (omega (arith, within))
-local_logs model process (name ∷ names) (x ∷ xs) each zero d within = let run = each 0 (omega arith) in record { legal = run.legal; session = run.session }
+local_logs model process (name ∷ names) (x ∷ xs) each zero d within = let run = each 0 (omega arith) in record { legal = run.0; session = run.1 }
 local_logs model process (name ∷ names) (x ∷ xs) each (suc k) d within =
     local_logs model process names xs (λ j inside. each (suc j) (omega (arith, inside))) k d (omega (arith, within))
 
 local_runs : (model : Model) (process : ℕ) (ps : List ProcessLines) (states : List ProcessState)
-    → ((n h : ℕ) → n < length states → h < length (process_in states n).handles → IsLocal model (handle_in (process_in states n).handles h))
-    → All (IsLocalRun model) (process_logs process ps (map (λ p. p.handles) states))
+    → ((n h : ℕ) → n < length states → h < length (process_in states n).handles
+    → IsLegal model (handle_in (process_in states n).handles h).log.entries × (is_some (handle_in (process_in states n).handles h).session ≡ has_opened (handle_in (process_in states n).handles h).log.entries))
+    → All (IsLocalRun model) (process_logs process ps states)
 local_runs model process [] states each k d within = absurd (omega (arith, within))
 local_runs model process (p ∷ ps) [] each k d within = absurd (omega (arith, within))
 local_runs model process (p ∷ ps) (s ∷ ss) each k d within =
-    All-append (IsLocalRun model) (handle_logs process p.handles s.handles) (process_logs (process + 1) ps (map (λ q. q.handles) ss))
+    All-append (IsLocalRun model) (handle_logs process p.handles s.handles) (process_logs (process + 1) ps ss)
     (local_logs model process p.handles s.handles (λ h inside. each 0 h (omega arith) inside))
     (local_runs model (process + 1) ps ss (λ n h inner inside. each (suc n) h (omega (arith, inner)) inside)) k d within
-
-is_local : (model own : Model) (h : HandleState) → own ≡ model → IsLegal own h.entries → is_some h.session ≡ has_opened h.entries → IsLocal model h
-is_local model own h same legal session = record {
-  legal = (let P : Model → Type 0 = λ m. IsLegal m h.entries in subst P same legal);
-  session = session;
-}
-
-driver_local : (script : ScriptLines) (g : GuestState) (n h : ℕ) → IsDriver script g → n < length g.processes → h < length (process_at g n).handles
-    → IsLocal script.model (handle_in (process_at g n).handles h)
-driver_local script g n h d within inside =
-    let x : HandleState = handle_in (process_at g n).handles h in
-    let own = (d.orderly n within).each h inside in
-    is_local script.model x.model x own.model own.legal own.session
 
 -- ---- the ids
 
@@ -164,85 +164,217 @@ sessions_by_names process [] (x ∷ xs) same = cc
 sessions_by_names process (name ∷ names) [] same = cc
 sessions_by_names process (name ∷ names) (x ∷ xs) same = ap (λ ids. x.session ∷ ids) (sessions_by_names process names xs (omega (arith, same)))
 
-abbrev rows_of : List (List HandleState) → List (List (Option ℕ))
-rows_of handles = map (λ hs. map (λ h. h.session) hs) handles
+abbrev rows_of : List ProcessState → List (List (Option ℕ))
+rows_of states = map (λ s. map (λ h. h.session) s.handles) states
 
-sessions_by_processes : (process : ℕ) (ps : List ProcessLines) (handles : List (List HandleState)) → Fits ps handles
-    → map (λ h. h.session) (process_logs process ps handles) ≡ joined (rows_of handles)
-sessions_by_processes process [] [] fits = refl
-sessions_by_processes process [] (hs ∷ rest) fits = absurd fits
-sessions_by_processes process (p ∷ ps) [] fits = absurd fits
-sessions_by_processes process (p ∷ ps) (hs ∷ rest) fits =
-    map-append (λ h. h.session) (handle_logs process p.handles hs) (process_logs (process + 1) ps rest) ∙
-    rw (sessions_by_names process p.handles hs fits.0, sessions_by_processes (process + 1) ps rest fits.1) refl
+sessions_by_processes : (process : ℕ) (ps : List ProcessLines) (states : List ProcessState) → length states ≡ length ps
+    → ((n : ℕ) → n < length states → length (process_in states n).handles ≡ length (get_or ps n no_lines).handles)
+    → map (λ h. h.session) (process_logs process ps states) ≡ joined (rows_of states)
+sessions_by_processes process [] [] same each = refl
+sessions_by_processes process [] (s ∷ ss) same each = cc
+sessions_by_processes process (p ∷ ps) [] same each = cc
+sessions_by_processes process (p ∷ ps) (s ∷ ss) same each =
+    map-append (λ h. h.session) (handle_logs process p.handles s.handles) (process_logs (process + 1) ps ss) ∙
+    rw (sessions_by_names process p.handles s.handles (each 0 (omega arith)), sessions_by_processes (process + 1) ps ss (omega (arith, same)) (λ n within. each (suc n) (omega (arith, within)))) refl
 
--- the seats' sessions are those of the handles
-same_row : (row : List Seat) (handles : List HandleState) → length row ≡ length handles
-    → ((h : ℕ) → h < length handles → (get_or row h no_seat).session ≡ (handle_in handles h).session)
-    → (h : ℕ) → get_or (map (λ x. x.session) handles) h None ≡ (get_or row h no_seat).session
-same_row [] [] same each h = refl
-same_row [] (x ∷ xs) same each h = cc
-same_row (s ∷ ss) [] same each h = cc
-same_row (s ∷ ss) (x ∷ xs) same each zero = sym (each 0 (omega arith))
-same_row (s ∷ ss) (x ∷ xs) same each (suc h) = same_row ss xs (omega (arith, same)) (λ k within. each (suc k) (omega (arith, within))) h
+-- the id in a row is that of a handle
+row_at : (hs : List HandleState) (h id : ℕ) → get_or (map (λ x. x.session) hs) h None ≡ Some id → IsSome (slice_get hs h) × ((handle_in hs h).session ≡ Some id)
+row_at [] h id is = cc
+row_at (x ∷ xs) zero id is = (refl, is)
+row_at (x ∷ xs) (suc h) id is = row_at xs h id is
 
-same_rows : (rows : List (List Seat)) (states : List ProcessState) → length rows ≡ length states
-    → ((n : ℕ) → n < length states → (h : ℕ) → get_or (map (λ x. x.session) (process_in states n).handles) h None ≡ (get_or (get_or rows n []) h no_seat).session)
-    → (n h : ℕ) → id_at (rows_of (map (λ p. p.handles) states)) n h ≡ (seat_at rows n h).session
-same_rows [] [] same each n h = refl
-same_rows [] (s ∷ ss) same each n h = cc
-same_rows (r ∷ rs) [] same each n h = cc
-same_rows (r ∷ rs) (s ∷ ss) same each zero h = each 0 (omega arith) h
-same_rows (r ∷ rs) (s ∷ ss) same each (suc n) h = same_rows rs ss (omega (arith, same)) (λ k within. each (suc k) (omega (arith, within))) n h
+at_row : (hs : List HandleState) (h id : ℕ) → IsSome (slice_get hs h) → (handle_in hs h).session ≡ Some id → get_or (map (λ x. x.session) hs) h None ≡ Some id
+at_row [] h id there is = cc
+at_row (x ∷ xs) zero id there is = is
+at_row (x ∷ xs) (suc h) id there is = at_row xs h id there is
 
-seats_tell : (script : ScriptLines) (w : WorldState) (sound : IsSoundOf script w) → IsGuestDone w.guest
-    → (n h : ℕ) → id_at (rows_of (handles_of w.guest)) n h ≡ (seat_at sound.seats n h).session
-seats_tell script w sound done =
-    same_rows sound.seats w.guest.processes sound.seated (λ n within.
-    (let p : ProcessState = process_at w.guest n in
-    let none : crossing p ≡ None = (rested script.model (lines_at script n) p (sound.driver.orderly n within) (process_done w.guest n done within)).none in
-    let rests = resting_is p (get_or sound.seats n []) _ _ none (sound.processes n within) in
-    same_row (get_or sound.seats n []) p.handles rests.named (λ h inside. ap (λ s. s.session) (rests.ahead h inside).1)))
+abbrev named_in : List ProcessState → ℕ → ℕ → Option HandleState
+named_in states n h = option_and_then (λ (p : ProcessState). slice_get p.handles h) (slice_get states n)
 
-numbers_in : (script : ScriptLines) (w : WorldState) → IsSoundOf script w → IsGuestDone w.guest → AreNumbersIn (length w.host.sessions) (rows_of (handles_of w.guest))
-numbers_in script w sound done =
-    let tell = seats_tell script w sound done in
-    record {
-      below = λ n h id is. sound.agrees.below n h id (sym (tell n h) ∙ is);
-      there = λ id within. (let at = sound.agrees.there id within in (at.0, (at.1.0, tell at.0 at.1.0 ∙ at.1.1)));
-      once = λ n h m k id this that. sound.agrees.once n h m k id (sym (tell n h) ∙ this) (sym (tell m k) ∙ that);
-    }
+rows_at : (states : List ProcessState) (n h id : ℕ) → id_at (rows_of states) n h ≡ Some id
+    → (n < length states) × IsSome (named_in states n h) × ((handle_at (process_in states n) h).session ≡ Some id)
+rows_at [] n h id is = cc
+rows_at (s ∷ ss) zero h id is = let own = row_at s.handles h id is in (omega arith, own.0, own.1)
+rows_at (s ∷ ss) (suc n) h id is = let rest = rows_at ss n h id is in (let inside = rest.0 in omega (arith, inside), rest.1, rest.2)
+
+at_rows : (states : List ProcessState) (n h id : ℕ) → IsSome (named_in states n h) → (handle_at (process_in states n) h).session ≡ Some id
+    → (n < length states) × (id_at (rows_of states) n h ≡ Some id)
+at_rows [] n h id there is = cc
+at_rows (s ∷ ss) zero h id there is = (omega arith, at_row s.handles h id there is)
+at_rows (s ∷ ss) (suc n) h id there is = let rest = at_rows ss n h id there is in (let inside = rest.0 in omega (arith, inside), rest.1)
+
+named_within : (states : List ProcessState) (n h : ℕ) → IsSome (named_in states n h) → n < length states
+named_within [] n h there = cc
+named_within (s ∷ ss) zero h there = omega arith
+named_within (s ∷ ss) (suc n) h there = let rest = named_within ss n h there in omega (arith, rest)
+
+-- the id ahead of a handle of which no call is out is that of its session
+id_there : (w : WorldState) (n h : ℕ) → IsDone w → n < length w.guest.processes → id_ahead_at w n h ≡ (handle_at (process_at w.guest n) h).session
+id_there w n h done within = ap (λ out. id_ahead (handle_at (process_at w.guest n) h) out) (nothing_out w n h done within)
+
+numbers_in : (w : WorldState) → AgreeOnIds w → IsDone w → AreNumbersIn (length w.host.device.sessions) (rows_of w.guest.processes)
+numbers_in w agree done = record {
+  below = λ n h id is. (let at = rows_at w.guest.processes n h id is in agree.below n h id at.1 (id_there w n h done at.0 ∙ at.2));
+  there = λ id within.
+      (let at = agree.there id within in
+      let inside = named_within w.guest.processes at.0 at.1 at.2 in
+      (at.0, (at.1, (at_rows w.guest.processes at.0 at.1 id at.2 (sym (id_there w at.0 at.1 done inside) ∙ at.3)).1)));
+  once = λ n h m k id this that.
+      (let one = rows_at w.guest.processes n h id this in
+      let two = rows_at w.guest.processes m k id that in
+      agree.once n h m k id one.1 two.1 (id_there w n h done one.0 ∙ one.2) (id_there w m k done two.0 ∙ two.2));
+}
+
+-- ---- the journal
+
+none_executed : (out : Out) (x : Slice) (v : Inner) → out ≡ Nowhere → IsOut out x v → v.executed ≡ None
+none_executed out x v nowhere is = let none : IsOut Nowhere x v = subst (λ o. IsOut o x v) nowhere is in none.0.executed
+
+abbrev mappings_told : Model → HandleLog → List Mapping
+mappings_told model log = mappings_of model log.entries None
+
+shares_alike : (w : WorldState) (rows : List (List Inner)) (n h process : ℕ) (names : List (List ℕ)) (hs : List HandleState) → length hs ≡ length names
+    → ((k : ℕ) → k < length hs → (inner_at w rows n (h + k)).executed ≡ None)
+    → map (λ s. s.mappings) (shares_from w rows n h hs) ≡ map (mappings_told w.script.model) (handle_logs process names hs)
+shares_alike w rows n h process [] [] same none = refl
+shares_alike w rows n h process [] (x ∷ xs) same none = cc
+shares_alike w rows n h process (name ∷ names) [] same none = cc
+shares_alike w rows n h process (name ∷ names) (x ∷ xs) same none =
+    let at : h + 0 ≡ h = omega arith in
+    let P : ℕ → Type 0 = λ k. (inner_at w rows n k).executed ≡ None in
+    let here : (inner_at w rows n h).executed ≡ None = subst P at (none 0 (omega arith)) in
+    let first : mappings_of w.script.model x.log.entries (inner_at w rows n h).executed ≡ mappings_of w.script.model x.log.entries None =
+    ap (λ e. mappings_of w.script.model x.log.entries e) here in
+    let rest = shares_alike w rows n (h + 1) process names xs (omega (arith, same)) (λ k within.
+    (let next : h + suc k ≡ h + 1 + k = omega arith in subst P next (none (suc k) (omega (arith, within))))) in
+    rw (first, rest) refl
+
+all_alike : (w : WorldState) (rows : List (List Inner)) (n process : ℕ) (ps : List ProcessLines) (states : List ProcessState) → length states ≡ length ps
+    → ((m : ℕ) → m < length states → length (process_in states m).handles ≡ length (get_or ps m no_lines).handles)
+    → ((m k : ℕ) → m < length states → k < length (process_in states m).handles → (inner_at w rows (n + m) k).executed ≡ None)
+    → map (λ s. s.mappings) (all_shares w rows n states) ≡ map (mappings_told w.script.model) (process_logs process ps states)
+all_alike w rows n process [] [] same named none = refl
+all_alike w rows n process [] (s ∷ ss) same named none = cc
+all_alike w rows n process (p ∷ ps) [] same named none = cc
+all_alike w rows n process (p ∷ ps) (s ∷ ss) same named none =
+    let at : n + 0 ≡ n = omega arith in
+    let first = shares_alike w rows n 0 process p.handles s.handles (named 0 (omega arith)) (λ k within.
+    (let P : ℕ → Type 0 = λ m. (inner_at w rows m k).executed ≡ None in
+    let Q : ℕ → Type 0 = λ j. (inner_at w rows n j).executed ≡ None in
+    let zeroth : k ≡ 0 + k = omega arith in
+    subst Q zeroth (subst P at (none 0 k (omega arith) within)))) in
+    let rest = all_alike w rows (n + 1) (process + 1) ps ss (omega (arith, same)) (λ m within. named (suc m) (omega (arith, within))) (λ m k within inside.
+    (let next : n + suc m ≡ n + 1 + m = omega arith in
+    let P : ℕ → Type 0 = λ j. (inner_at w rows j k).executed ≡ None in
+    subst P next (none (suc m) k (omega (arith, within)) inside))) in
+    map-append (λ s. s.mappings) (shares_from w rows n 0 s.handles) (all_shares w rows (n + 1) ss) ∙
+    (rw (first, rest) refl ∙ sym (map-append (mappings_told w.script.model) (handle_logs process p.handles s.handles) (process_logs (process + 1) ps ss)))
+
+-- ---- frames that failed
+
+bad_handles : (process : ℕ) (names : List (List ℕ)) (hs : List HandleState) → length hs ≡ length names
+    → sum_by (λ log. bad_in log.entries) (handle_logs process names hs) ≡ sum_by (λ h. bad_in h.log.entries) hs
+bad_handles process [] [] same = refl
+bad_handles process [] (x ∷ xs) same = cc
+bad_handles process (name ∷ names) [] same = cc
+bad_handles process (name ∷ names) (x ∷ xs) same =
+    sum_by-cons (λ (log : HandleLog). bad_in log.entries) (handle_log process name x) (handle_logs process names xs) ∙
+    (ap (λ n. bad_in x.log.entries + n) (bad_handles process names xs (omega (arith, same))) ∙ sym (sum_by-cons (λ (h : HandleState). bad_in h.log.entries) x xs))
+
+bad_processes : (process : ℕ) (ps : List ProcessLines) (states : List ProcessState) → length states ≡ length ps
+    → ((m : ℕ) → m < length states → length (process_in states m).handles ≡ length (get_or ps m no_lines).handles)
+    → sum_by (λ log. bad_in log.entries) (process_logs process ps states) ≡ sum_by (λ h. bad_in h.log.entries) (flat_map (λ p. p.handles) states)
+bad_processes process [] [] same named = refl
+bad_processes process [] (s ∷ ss) same named = cc
+bad_processes process (p ∷ ps) [] same named = cc
+bad_processes process (p ∷ ps) (s ∷ ss) same named =
+    let first = bad_handles process p.handles s.handles (named 0 (omega arith)) in
+    let rest = bad_processes (process + 1) ps ss (omega (arith, same)) (λ m within. named (suc m) (omega (arith, within))) in
+    sum_by-append (λ log. bad_in log.entries) (handle_logs process p.handles s.handles) (process_logs (process + 1) ps ss) ∙
+    (rw (first, rest) refl ∙ sym (sum_by-append (λ h. bad_in h.log.entries) s.handles (flat_map (λ q. q.handles) ss)))
+
+no_bad_handles : (hs : List HandleState) → ((h : ℕ) → h < length hs → (handle_in hs h).log.entries ≡ []) → sum_by (λ h. bad_in h.log.entries) hs ≡ 0
+no_bad_handles [] each = refl
+no_bad_handles (x ∷ xs) each =
+    sum_by-cons (λ (h : HandleState). bad_in h.log.entries) x xs ∙ rw (each 0 (omega arith), no_bad_handles xs (λ h within. each (suc h) (omega (arith, within)))) refl
+
+no_bad_processes : (states : List ProcessState) → ((n h : ℕ) → n < length states → h < length (process_in states n).handles → (handle_in (process_in states n).handles h).log.entries ≡ [])
+    → sum_by (λ h. bad_in h.log.entries) (flat_map (λ p. p.handles) states) ≡ 0
+no_bad_processes [] each = refl
+no_bad_processes (s ∷ ss) each =
+    sum_by-append (λ h. bad_in h.log.entries) s.handles (flat_map (λ q. q.handles) ss) ∙
+    rw (no_bad_handles s.handles (λ h inside. each 0 h (omega arith) inside), no_bad_processes ss (λ n h within inside. each (suc n) h (omega (arith, within)) inside)) refl
+
+-- before the first line none failed
+none_bad : (script : ScriptLines) (w : WorldState) → IsOpening script w → bad_count w ≡ 0
+none_bad script w begins =
+    let none : messages_of w ≡ [] = rw (begins.guest.pump, begins.events, begins.device) refl in
+    let logs = no_bad_processes w.guest.processes (λ n h within inside. ap (λ (x : HandleState). x.log.entries) ((begins.guest.fresh n within).fresh h inside)) in
+    rw (logs, none) refl
 
 -- ---- the whole run
 
-each_answered : (script : ScriptLines) (g : GuestState) → IsDriver script g → IsGuestDone g
-    → (n : ℕ) → n < length g.processes → IsAnswered (get_or script.processes n no_lines) (process_in g.processes n).handles
-each_answered script g d done n within = answered script.model (lines_at script n) (process_at g n) (d.orderly n within) (process_done g n done within)
+there_in : (xs : List HandleState) (k : ℕ) → k < length xs → IsSome (slice_get xs k)
+there_in [] k below = absurd (omega (arith, below))
+there_in (x ∷ xs) zero below = refl
+there_in (x ∷ xs) (suc k) below = there_in xs k (omega (arith, below))
 
-logs_are : (script : ScriptLines) (w : WorldState) → IsSoundOf script w → IsGuestDone w.guest → AreLogsOf script (logs_of_world script w)
-logs_are script w sound done =
+handle_there : (states : List ProcessState) (n h : ℕ) → n < length states → h < length (process_in states n).handles → IsSome (named_in states n h)
+handle_there [] n h within inside = absurd (omega (arith, within))
+handle_there (s ∷ ss) zero h within inside = there_in s.handles h inside
+handle_there (s ∷ ss) (suc n) h within inside = handle_there ss n h (omega (arith, within)) inside
+
+logs_are : (script : ScriptLines) (w : WorldState) → IsReadScript script → w.script ≡ script → IsSound w → IsDone w → AreLogsOf script (logs_of_world script w)
+logs_are script w read is (rows, sound) done =
     let g : GuestState = w.guest in
-    let ids = sessions_by_processes 0 script.processes (handles_of g) (driver_fits script g sound.driver) in
-    let P : List (Option ℕ) → Type 0 = λ xs. AreNumbersBelow (length w.host.sessions) xs in
+    let driver : IsDriver script g = subst (λ s. IsDriver s g) is sound.lines in
+    let named : (n : ℕ) → n < length g.processes → length (process_in g.processes n).handles ≡ length (get_or script.processes n no_lines).handles = λ n within. (driver.orderly n within).named in
+    let ids = sessions_by_processes 0 script.processes g.processes driver.count named in
+    let P : List (Option ℕ) → Type 0 = λ xs. AreNumbersBelow (length w.host.device.sessions) xs in
+    let alike = all_alike w rows 0 0 script.processes g.processes driver.count named (λ m k within inside.
+    (let zeroth : m ≡ 0 + m = omega arith in
+    let Q : ℕ → Type 0 = λ j. (inner_at w rows j k).executed ≡ None in
+    subst Q zeroth (none_executed (slice_at w m k).out (slice_at w m k) (inner_at w rows m k) (nothing_out w m k done within) (sound.slices m k (handle_there g.processes m k within inside)).out))) in
+    let model_is : w.script.model ≡ script.model = ap (λ (s : ScriptLines). s.model) is in
+    let lists = alike ∙ ap (λ m. map (mappings_told m) (process_logs 0 script.processes g.processes)) model_is in
     record {
-      answers = answers_of 0 script.processes g.processes sound.driver.count (each_answered script g sound.driver done);
-      runs = local_runs script.model 0 script.processes g.processes (λ n h within inside. driver_local script g n h sound.driver within inside);
-      ids = (length w.host.sessions, subst P (sym ids) (numbers_joined (length w.host.sessions) (rows_of (handles_of g)) (numbers_in script w sound done)));
+      answers = answers_of 0 script.processes g.processes driver.count (each_answers script g driver done);
+      raws = no_raws 0 script.processes g.processes read.each ∙ sym (no_raws_of 0 script.processes (λ i d within. read.each i d within));
+      runs = local_runs script.model 0 script.processes g.processes (λ n h within inside.
+          (driver_legal script g n h driver within inside, ((driver.orderly n within).each h inside).keeps.opened));
+      ids = (length w.host.device.sessions, subst P (sym ids) (numbers_joined (length w.host.device.sessions) (rows_of g.processes) (numbers_in w sound.ids done)));
+      sound = sound.mapped.sound;
+      deals = (sound.mapped.lives, subst (λ ls. DealsFrom [] w.host.device.region.journal ls sound.mapped.lives) lists sound.mapped.deals);
       wire = refl;
     }
 
+few_bad : (script : ScriptLines) (w w' : WorldState) (fails : Failures) → w'.script ≡ script → IsSound w' → bad_count w ≡ 0 → FailsWithin w w' fails.before fails.after
+    → FailedFor (bad_among (logs_of_world script w')) fails
+few_bad script w w' fails is (rows, sound) none (inr full) = inr full
+few_bad script w w' fails is (rows, sound) none (inl few) =
+    let driver : IsDriver script w'.guest = subst (λ s. IsDriver s w'.guest) is sound.lines in
+    let same = bad_processes 0 script.processes w'.guest.processes driver.count (λ n within. (driver.orderly n within).named) in
+    inl (omega (arith, few, none, same))
+
 -- what is printed of a world to which the schedule led is the text of the seed's run
-pub ran : (seed : ℕ) (script : ScriptLines) (w w' : WorldState) (text : List ℕ) → IsOpening script w → IsScheduled w seed w' → IsSoundOf script w'
-    → text ≡ text_of (logs_of_guest script w'.guest) (words_of script) → IsRun seed script text
-ran seed script w w' text begins scheduled sound printed =
-    let done = scheduled_done scheduled.0 w seed w' scheduled.1 in (
+pub ran : (seed : ℕ) (fails : Failures) (script : ScriptLines) (w w' : WorldState) (text : List ℕ) → IsReadScript script → IsOpening script w → IsScheduled w seed w' → w'.script ≡ w.script
+    → IsSound w' → FailsWithin w w' fails.before fails.after → IsPrintedWith (words_of script) text (logs_of_world script w') → IsRun seed fails script text
+ran seed fails script w w' text read begins scheduled same sound within printed =
+    let done = scheduled_done scheduled.0 w seed w' scheduled.1 in
+    let is : w'.script ≡ script = same ∙ begins.is in (
       w,
       w',
       record {
         begins = begins;
         scheduled = scheduled;
-        logs = logs_are script w' sound done;
-        printed = (all_processes_read 0 script.processes w'.guest.processes sound.driver.count (each_answered script w'.guest sound.driver done), refl, printed);
+        few = λ steps runs. runs_end script w w' steps (read_runnable script read) begins (schedule_leads w w' steps seed runs);
+        logs = logs_are script w' read is sound done;
+        few_bad = few_bad script w w' fails is sound (none_bad script w begins) within;
+        words = printed;
+        told = record {
+          printed = (words_of script, printed);
+          alone = λ others tells. one_run text others (logs_of_world script w') tells (words_of script, printed);
+        };
       },
     )
 
@@ -250,15 +382,3 @@ ran seed script w w' text begins scheduled sound printed =
 pub ok_weaken : {A E : Type 0} (r : Result A E) (P Q : A → Type 0) → ((x : A) → P x → Q x) → IfOk r P → IfOk r Q
 ok_weaken (Ok x) P Q follows holds = follows x holds
 ok_weaken (Err e) P Q follows holds = tt
-
--- ---- a script that was read
-
-alone : {A : Type 0} (P : A → Type 0) (x : A) → P x → All P (x ∷ [])
-alone P x holds zero d within = holds
-alone P x holds (suc i) d within = absurd (omega (arith, within))
-
-pub read_script : (bytes : List ℕ) (s : ScriptLines) → script_of bytes ≡ Ok s → IsReadScript s
-read_script bytes s is =
-    let found = read_process bytes s is in
-    let one : IsReadScript (record { model = Capture; processes = found.0 ∷ [] }) = record { few = omega arith; each = alone IsReadProcess found.0 found.2 } in
-    subst IsReadScript (sym found.1) one

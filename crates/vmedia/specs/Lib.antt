@@ -1,5 +1,3 @@
 pub mod Command
-pub mod Echoes
-pub mod Printing
 pub mod Run
 pub mod Top

@@ -11,7 +11,7 @@ use Rattle.vm_script.specs.Grammar.{script_of}
 use Rattle.vmedia.specs.declared.ending.Ending.{Ending}
 use Rattle.vmedia.specs.declared.ending.Ending.TheVariants.{Ran, BadWords, BadScript, SourceFailed, SinkFailed, NoMemory}
 use Rattle.vmedia.specs.Command.{seed_in}
-use Rattle.vmedia.specs.Run.{IsRun}
+use Rattle.vmedia.specs.Run.{Failures, failures, IsRun}
 
 -- how many bytes a script has at most
 abbrev pub script_limit : ℕ
@@ -50,28 +50,26 @@ TellsFault bytes text =
     × ((f : ScriptFault) × (script_of bytes ≡ Err f) ×
     (text ≡ fault_line f.line (kind_text f.kind))))
 
--- The text is that of a run of the script under the seed's schedule.
-abbrev pub IsRunUnder : ℕ → ScriptLines → List ℕ → Type 0
-IsRunUnder seed s text = IsRun seed s text
-
--- The bytes are a script, and the text is that of its run under the seed's schedule.
-abbrev pub TellsRun : ℕ → List ℕ → List ℕ → Type 0
-TellsRun seed bytes text =
+-- The bytes are a script, and the text is that of its run under the seed's schedule, while the
+-- engine failed so often.
+abbrev pub TellsRun : ℕ → Failures → List ℕ → List ℕ → Type 0
+TellsRun seed fails bytes text =
     (length bytes ≤ script_limit) ×
-    ((s : ScriptLines) × (script_of bytes ≡ Ok s) × IsRunUnder seed s text)
+    ((s : ScriptLines) × (script_of bytes ≡ Ok s) × IsRun seed fails s text)
 
 -- The text answers the source's bytes, where it tells them, to the command line with this seed.
-abbrev pub Answers : ℕ → Option (List ℕ) → Ending → List ℕ → Type 0
-Answers seed left Ran text = IfSome left (λ bytes. TellsRun seed bytes text)
-Answers seed left BadScript text = IfSome left (λ bytes. TellsFault bytes text)
-Answers seed left ending text = ⊥
+abbrev pub Answers : ℕ → Failures → Option (List ℕ) → Ending → List ℕ → Type 0
+Answers seed fails left Ran text = IfSome left (λ bytes. TellsRun seed fails bytes text)
+Answers seed fails left BadScript text = IfSome left (λ bytes. TellsFault bytes text)
+Answers seed fails left ending text = ⊥
 
 -- The text answers these words and the source's bytes, and this ending goes with it. Three endings
 -- have no text.
-abbrev pub Tells : List (List ℕ) → Option (List ℕ) → Ending → List ℕ → Type 0
-Tells words left BadWords text = (seed_in words ≡ None) × (text ≡ usage_line)
-Tells words left ending text =
-    (seed : ℕ) × (seed_in words ≡ Some seed) × Answers seed left ending text
+abbrev pub Tells :
+    List (List ℕ) → Failures → Option (List ℕ) → Ending → List ℕ → Type 0
+Tells words fails left BadWords text = (seed_in words ≡ None) × (text ≡ usage_line)
+Tells words fails left ending text =
+    (seed : ℕ) × (seed_in words ≡ Some seed) × Answers seed fails left ending text
 
 -- ---- the outside
 
@@ -85,19 +83,25 @@ pub record SinkView : Type 0 where
   pub held : Option (List ℕ)
   pub faults : ℕ
 
--- what a call sees of its outside
+-- what a call sees of its outside, with how many of the engine's calls failed
 pub record Outside : Type 0 where
   pub source : SourceView
   pub sink : SinkView
+  pub engine : ℕ
 
 abbrev pub sink_view : Option (List ℕ) → ℕ → SinkView
 sink_view held faults = record { held = held; faults = faults }
 
-abbrev pub outside : Option (List ℕ) → ℕ → Option (List ℕ) → ℕ → Outside
-outside left read_faults held write_faults = record {
+abbrev pub outside : Option (List ℕ) → ℕ → Option (List ℕ) → ℕ → ℕ → Outside
+outside left read_faults held write_faults engine_faults = record {
   source = record { left = left; faults = read_faults };
   sink = record { held = held; faults = write_faults };
+  engine = engine_faults;
 }
+
+-- how often the engine failed
+abbrev pub failed : Outside → Outside → Failures
+failed before after = failures before.engine after.engine
 
 -- The text went out whole, and no write failed.
 abbrev pub WroteAll : SinkView → SinkView → List ℕ → Type 0
@@ -135,7 +139,7 @@ ReadsWell before after = after.source.faults ≡ before.source.faults
 abbrev pub IsTold : List (List ℕ) → Outside → Outside → Ending → Type 0
 IsTold words before after ending =
     ReadsWell before after
-    × ((text : List ℕ) × Tells words before.source.left ending text ×
+    × ((text : List ℕ) × Tells words (failed before after) before.source.left ending text ×
     WroteAll before.sink after.sink text)
 
 -- How the program ends: what each ending says of the words, and of the outside before and after.
@@ -149,7 +153,8 @@ Ends words before after SourceFailed =
     (after.sink ≡ before.sink)
 Ends words before after SinkFailed =
     ReadsWell before after
-    × ((told : Ending) × (text : List ℕ) × Tells words before.source.left told text
+    × ((told : Ending) × (text : List ℕ)
+    × Tells words (failed before after) before.source.left told text
     × WrotePart before.sink after.sink text)
 Ends words before after NoMemory =
     IsSome (seed_in words) × ReadsWell before after × (after.sink ≡ before.sink)

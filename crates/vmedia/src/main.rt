@@ -10,17 +10,12 @@ use top::{top_bad_words, top_plain};
 use vm_io::{StdSink, StdSource, SureEngine};
 use words::{WordsError, words_of};
 
-mod digest;
-mod echoes;
 mod ending;
 mod judge;
-mod printer;
-mod reply_text;
-#[cfg(test)]
-mod reply_text_tests;
 mod run;
 #[cfg(test)]
 mod run_tests;
+mod text;
 mod top;
 #[cfg(test)]
 mod top_tests;

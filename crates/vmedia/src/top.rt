@@ -8,12 +8,13 @@ ghost use Rattle.vm_script.specs.Grammar.{script_of};
 ghost use Rattle.vm_script.specs.Script.{ScriptLines};
 ghost use Rattle.vmedia.specs.declared.ending.Ending.{Ending};
 ghost use Rattle.vmedia.specs.Command.{seed_in};
+ghost use Rattle.vmedia.specs.Run.{failures};
 ghost use Rattle.vmedia.specs.Top.{script_limit, kind_text, fault_line, too_long_line, usage_line, Answers, Tells, TellsFault, IsWritten, Wrote, Ends, EndsWith, outside, sink_view};
 
 use crate::ending::Ending;
 use crate::judge::seed_in;
-use crate::printer::{push, push_number};
 use crate::run::run;
+use crate::text::{push, push_number};
 use std::alloc::Global;
 use vm_io::{Engine, ReadError, Sink, Source, WriteFault, read_all, write_all};
 use vm_mem::Memory;
@@ -89,14 +90,20 @@ fn too_long(alloc: Global) -> Result<Answer, Memory>
 }
 
 // What is answered to a script's bytes.
-fn answer_to_bytes(alloc: Global, bytes: &[u8], seed: u64) -> Result<Answer, Memory>
+fn answer_to_bytes<E: Engine>(
+    alloc: Global,
+    bytes: &[u8],
+    seed: u64,
+    engine: &mut E,
+) -> Result<Answer, Memory>
     requires { length bytes.now ≤ script_limit }
-    ensures { IfOk result (λ a. Answers seed (Some bytes.now) a.ending a.text.items) }
+    ensures { IfOk result (λ a. Answers seed (failures (E.faults engine.old)
+        (E.faults engine.new)) (Some bytes.now) a.ending a.text.items) }
 {
     match read_script(alloc, bytes) {
         Ok(script) => Ok(Answer {
             ending: Ending::Ran,
-            text: run(alloc, script, seed)?,
+            text: run(alloc, script, seed, engine)?,
         }),
         Err(ScriptError::Fault(fault)) => Ok(Answer {
             ending: Ending::BadScript,
@@ -107,14 +114,20 @@ fn answer_to_bytes(alloc: Global, bytes: &[u8], seed: u64) -> Result<Answer, Mem
 }
 
 // What is answered to what the source gives. A read that failed isn't tried again.
-fn answer_to_source<S: Source>(alloc: Global, src: &mut S, seed: u64) -> Result<Answer, Failure>
-    ensures ok { IfOk result (λ a. Answers seed (S.left src.old) a.ending a.text.items) }
+fn answer_to_source<S: Source, E: Engine>(
+    alloc: Global,
+    src: &mut S,
+    seed: u64,
+    engine: &mut E,
+) -> Result<Answer, Failure>
+    ensures ok { IfOk result (λ a. Answers seed (failures (E.faults engine.old)
+        (E.faults engine.new)) (S.left src.old) a.ending a.text.items) }
     ensures read { IfOk result (λ a. a.ending ≡ Ending.Ran → NothingLeft (S.left src.new)) }
     ensures source { IsErrOf result Failure.Source → Rose (S.faults src.old) (S.faults src.new) }
     ensures well { ¬ (IsErrOf result Failure.Source) → S.faults src.new ≡ S.faults src.old }
 {
     let answer = match read_all(alloc, src, SCRIPT_LIMIT) {
-        Ok(bytes) => answer_to_bytes(alloc, &bytes, seed)?,
+        Ok(bytes) => answer_to_bytes(alloc, &bytes, seed, engine)?,
         Err(ReadError::TooLong) => too_long(alloc)?,
         Err(ReadError::ReadFault) => return Err(Failure::Source),
         Err(ReadError::Memory) => return Err(Failure::Memory),
@@ -135,16 +148,24 @@ fn write<K: Sink>(sink: &mut K, text: &[u8], told: Ending) -> Ending
 }
 
 // Serves the words: the top call's clauses follow of the ending.
-fn serve<S: Source, K: Sink>(alloc: Global, words: &[String], src: &mut S, sink: &mut K) -> Ending
+fn serve<S: Source, K: Sink, E: Engine>(
+    alloc: Global,
+    words: &[String],
+    src: &mut S,
+    sink: &mut K,
+    engine: &mut E,
+) -> Ending
     ensures ends { Ends (map string_bytes words.now)
-        (outside (S.left src.old) (S.faults src.old) (K.held sink.old) (K.faults sink.old))
-        (outside (S.left src.new) (S.faults src.new) (K.held sink.new) (K.faults sink.new)) result }
+        (outside (S.left src.old) (S.faults src.old) (K.held sink.old) (K.faults sink.old)
+        (E.faults engine.old))
+        (outside (S.left src.new) (S.faults src.new) (K.held sink.new) (K.faults sink.new)
+        (E.faults engine.new)) result }
     ensures untouched { seed_in (map string_bytes words.now) ≡ None → src.new ≡ src.old }
 {
     let Some(seed) = seed_in(words) else {
         return write(sink, USAGE, Ending::BadWords);
     };
-    match answer_to_source(alloc, src, seed) {
+    match answer_to_source(alloc, src, seed, engine) {
         Ok(answer) => write(sink, &answer.text, answer.ending),
         Err(Failure::Source) => Ending::SourceFailed,
         Err(Failure::Memory) => Ending::NoMemory,
@@ -184,12 +205,14 @@ pub fn top_plain<S: Source, K: Sink, E: Engine>(
     ensures untouched { seed_in (map string_bytes words.now) ≡ None → src.new ≡ src.old }
     // The bytes are a script, and what was written is the text of a legal run of it.
     ensures run { result ≡ 0 → Wrote (K.held sink.old) (K.held sink.new)
-        (Tells (map string_bytes words.now) (S.left src.old) Ending.Ran) }
+        (Tells (map string_bytes words.now) (failures (E.faults engine.old)
+        (E.faults engine.new)) (S.left src.old) Ending.Ran) }
     // They were read to their end.
     ensures read { result ≡ 0 → NothingLeft (S.left src.new) }
     // The bytes are no script, or too many, and what was written tells the first fault.
     ensures script { result ≡ 3 → Wrote (K.held sink.old) (K.held sink.new)
-        (Tells (map string_bytes words.now) (S.left src.old) Ending.BadScript) }
+        (Tells (map string_bytes words.now) (failures (E.faults engine.old)
+        (E.faults engine.new)) (S.left src.old) Ending.BadScript) }
     // The source's faults rose, and nothing was written.
     ensures source { result ≡ 4 → Rose (S.faults src.old) (S.faults src.new)
         × (K.held sink.new ≡ K.held sink.old) }
@@ -198,7 +221,8 @@ pub fn top_plain<S: Source, K: Sink, E: Engine>(
     // The sink's faults rose, and a front of a text went out that these words and bytes have.
     ensures sink { result ≡ 5 → Rose (K.faults sink.old) (K.faults sink.new)
         × ((told : Ending) × (text : List ℕ)
-        × Tells (map string_bytes words.now) (S.left src.old) told text
+        × Tells (map string_bytes words.now) (failures (E.faults engine.old)
+        (E.faults engine.new)) (S.left src.old) told text
         × PartAppended (K.held sink.old) (K.held sink.new) text) }
     // With no other status did a write fail.
     ensures writes_well { ¬ (result ≡ 5) → K.faults sink.new ≡ K.faults sink.old }
@@ -218,12 +242,12 @@ pub fn top_plain<S: Source, K: Sink, E: Engine>(
         → ¬ Rose (K.faults sink.old) (K.faults sink.new) → (result ≡ 3) ⊎ (result ≡ 6) }
     // Each of these, in one: no other status comes.
     ensures ends { EndsWith (map string_bytes words.now)
-        (outside (S.left src.old) (S.faults src.old) (K.held sink.old) (K.faults sink.old))
-        (outside (S.left src.new) (S.faults src.new) (K.held sink.new) (K.faults sink.new)) result }
+        (outside (S.left src.old) (S.faults src.old) (K.held sink.old) (K.faults sink.old)
+        (E.faults engine.old))
+        (outside (S.left src.new) (S.faults src.new) (K.held sink.new) (K.faults sink.new)
+        (E.faults engine.new)) result }
 {
-    // No line that is built makes a job, so the engine has nothing to do yet.
-    let _engine = engine;
-    serve(alloc, words, src, sink).status()
+    serve(alloc, words, src, sink, engine).status()
 }
 
 /// What is answered to a command line with a word that isn't UTF-8, which `top_plain` can't be

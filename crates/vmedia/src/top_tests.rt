@@ -1,9 +1,10 @@
-ghost use Rattle.std.specs.Prelude.{◌≤◌};
+pub(crate) mod rows;
 
 use crate::top::top_plain;
+use rows::CAPTURE;
 use std::alloc::{AllocError, Global};
 use std::test::Fail;
-use vm_io::{MemSink, MemSource, SureEngine};
+use vm_io::{Engine, MemSink, MemSource, ScriptedEngine, SureEngine};
 
 // A script that sets, tries and asks formats, and its text.
 const FORMATS: &[u8] = b"\
@@ -25,41 +26,23 @@ region\n\
 wire 40fab78172e223ddf868ebbaae76d07c9cca4911c1680b8c6403ee0de9f902cc\n\
 ";
 
-// A script that asks what the device is, what it offers and which input it shows, and its text.
-const INPUTS: &[u8] = b"\
-open a\n\
-querycap a\n\
-enumfmt a cap 5\n\
-enumfmt a cap 6\n\
-enuminput a 3\n\
-enuminput a 4\n\
-gfmt a cap\n\
-gfmt a out\n\
-ginput a\n\
-sinput a 3\n\
-ginput a\n\
-close a\n\
-ginput a\n\
-";
+/// What lies outside: how many bytes the source gives a call and the sink takes, how many bytes the
+/// sink has room for, and the numbers of the calls at which each fails.
+#[derive(Clone, Copy)]
+struct Outside {
+    piece: usize,
+    room: usize,
+    source_fails: &'static [u64],
+    sink_fails: &'static [u64],
+}
 
-const INPUTS_TEXT: &[u8] = b"\
-handle 0 a 0\n\
-1 open a = ok\n\
-2 querycap a = ok 84000001 04000001\n\
-3 enumfmt a cap 5 = ok RGB3\n\
-4 enumfmt a cap 6 = err 22 EINVAL\n\
-5 enuminput a 3 = ok count\n\
-6 enuminput a 4 = err 22 EINVAL\n\
-7 gfmt a cap = ok GREY 64 48 64 3072\n\
-8 gfmt a out = err 22 EINVAL\n\
-9 ginput a = ok 0\n\
-10 sinput a 3 = ok 3\n\
-11 ginput a = ok 3\n\
-12 close a = ok\n\
-13 ginput a = err 9 EBADF\n\
-region\n\
-wire 2dfa5a41c51afe9aed2f7c84e01e33abb3da86033a1b017eed456fdb37788b70\n\
-";
+/// An outside that doesn't fail.
+const SURE: Outside = Outside {
+    piece: 4096,
+    room: 4096,
+    source_fails: &[],
+    sink_fails: &[],
+};
 
 /// The status, and what the sink then holds.
 #[derive(Drop)]
@@ -68,32 +51,41 @@ struct Told {
     sink: MemSink,
 }
 
-/// What is told to words and a script. The source gives `piece` bytes a call, and so does the sink
-/// take them; each fails at the calls with these numbers.
-fn answer_of(
+/// What is told to words and a script, with an engine.
+fn answer_by<E: Engine>(
     alloc: Global,
     words: &[&str],
     script: &[u8],
-    piece: usize,
-    source_fails: &[u64],
-    sink_fails: &[u64],
-) -> Result<Told, AllocError>
-    requires { 1 ≤ piece }
-{
+    outside: &Outside,
+    engine: &mut E,
+) -> Result<Told, AllocError> {
     let mut line = Vec::new(alloc);
     for word in words {
         line.push(String::from_str(alloc, word)?)?;
     }
+    let piece = outside.piece.max(1);
     let mut source = MemSource::new(
         Vec::from_slice(alloc, script)?,
         piece,
-        Vec::from_slice(alloc, source_fails)?,
+        Vec::from_slice(alloc, outside.source_fails)?,
     );
-    let room = vec![in alloc; 0; 800]?;
-    let mut sink = MemSink::new(room, piece, Vec::from_slice(alloc, sink_fails)?);
-    let mut engine = SureEngine::new();
-    let status = top_plain(alloc, &line, &mut source, &mut sink, &mut engine);
+    let mut sink = MemSink::new(
+        vec![in alloc; 0; outside.room]?,
+        piece,
+        Vec::from_slice(alloc, outside.sink_fails)?,
+    );
+    let status = top_plain(alloc, &line, &mut source, &mut sink, engine);
     Ok(Told { status, sink })
+}
+
+/// The same, with an engine that doesn't fail.
+fn answer_of(
+    alloc: Global,
+    words: &[&str],
+    script: &[u8],
+    outside: &Outside,
+) -> Result<Told, AllocError> {
+    answer_by(alloc, words, script, outside, &mut SureEngine::new())
 }
 
 const EMPTY: &[u8] =
@@ -114,8 +106,9 @@ const USAGE: &[u8] = b"usage: vmedia check | step SEED | bulk N | run W\n";
 
 #[test]
 fn tells_runs_faults_and_usage(rt: HostRuntime) -> Result<(), Fail> {
-    let cases: [(&[&str], &[u8], u8, &[u8]); 24] = [
+    let cases: [(&[&str], &[u8], u8, &[u8]); 21] = [
         (&["step", "0"], b"", 0, EMPTY),
+        (&["step", "0"], b"device convert\nproc\n", 0, EMPTY),
         (&["step", "0"], b"open a\nclose a\n", 0, OPEN_CLOSE),
         (
             &["step", "18446744073709551615"],
@@ -124,6 +117,8 @@ fn tells_runs_faults_and_usage(rt: HostRuntime) -> Result<(), Fail> {
             OPEN_CLOSE,
         ),
         (&["step", "007"], SEVERAL, 0, SEVERAL_TEXT),
+        (&["step", "0"], FORMATS, 0, FORMATS_TEXT),
+        (&["step", "1"], FORMATS, 0, FORMATS_TEXT),
         (&["step", "18446744073709551616"], b"", 2, USAGE),
         (&["step"], b"", 2, USAGE),
         (&["step", "-1"], b"", 2, USAGE),
@@ -137,22 +132,16 @@ fn tells_runs_faults_and_usage(rt: HostRuntime) -> Result<(), Fail> {
         ),
         (
             &["step", "0"],
-            b"open a nonblock\n",
-            3,
-            b"script 1 NotBuilt\n",
-        ),
-        (
-            &["step", "0"],
-            b"\n\ndevice capture\n",
+            b"open a\nproc\nraw chain loop\n",
             3,
             b"script 3 NotBuilt\n",
         ),
-        (&["step", "0"], b"open a\nproc\n", 3, b"script 2 NotBuilt\n"),
-        (&["step", "0"], FORMATS, 0, FORMATS_TEXT),
-        (&["step", "1"], FORMATS, 0, FORMATS_TEXT),
-        (&["step", "0"], INPUTS, 0, INPUTS_TEXT),
-        (&["step", "63"], INPUTS, 0, INPUTS_TEXT),
-        (&["step", "18446744073709551615"], INPUTS, 0, INPUTS_TEXT),
+        (
+            &["step", "0"],
+            b"open a\n\ndevice capture\n",
+            3,
+            b"script 3 Word\n",
+        ),
         (&["step", "0"], b"open a\nsfm", 3, b"script 2 Word\n"),
         (&["step", "0"], b"open 9x\n", 3, b"script 1 Name\n"),
         (
@@ -175,13 +164,119 @@ fn tells_runs_faults_and_usage(rt: HostRuntime) -> Result<(), Fail> {
         ),
         (
             &["step", "0"],
-            b"raw bytes 0100000000000000 16\n",
+            b"proc\nproc\nproc\nproc\nproc\nproc\nproc\nproc\nproc\nproc\nproc\nproc\nproc\nproc\nproc\nproc\n",
             3,
-            b"script 1 NotBuilt\n",
+            b"script 16 TooManyProcesses\n",
         ),
     ];
     for (words, script, status, text) in cases {
-        let told = answer_of(rt.alloc(), words, script, 4096, &[], &[])?;
+        let told = answer_of(rt.alloc(), words, script, &SURE)?;
+        assert_eq!(rt; told.status, status);
+        assert_eq!(rt; told.sink.held(), text);
+    }
+    Ok(())
+}
+
+/// Whether a line stands in a text.
+fn has_line(text: &[u8], line: &[u8]) -> bool {
+    text.split(|byte| *byte == b'\n').any(|own| own == line)
+}
+
+/// A `dqbuf` and a `read` of its bytes.
+type Taking = (&'static [u8], &'static [u8]);
+
+/// What the pictures of a run tell where the engine makes them all.
+const GOOD: [Taking; 4] = [
+    (
+        b"14 dqbuf a cap = ok 0 256 0 0 00002001",
+        b"15 read a m0 0 8 = ok 0001020304050607",
+    ),
+    (
+        b"17 dqbuf a cap = ok 1 256 1 40000 00002001",
+        b"18 read a m1 0 8 = ok 0102030405060708",
+    ),
+    (
+        b"20 dqbuf a cap = ok 2 256 2 80000 00002001",
+        b"21 read a m2 0 8 = ok 0203040506070809",
+    ),
+    (
+        b"23 dqbuf a cap = ok 3 256 3 120000 00002001",
+        b"24 read a m3 0 8 = ok 030405060708090a",
+    ),
+];
+
+/// What each of them tells where the engine fails at it.
+const FAILED: [Taking; 4] = [
+    (
+        b"14 dqbuf a cap = ok 0 0 0 0 00002041",
+        b"15 read a m0 0 8 = ok 0000000000000000",
+    ),
+    (
+        b"17 dqbuf a cap = ok 1 0 1 40000 00002041",
+        b"18 read a m1 0 8 = ok 0000000000000000",
+    ),
+    (
+        b"20 dqbuf a cap = ok 2 0 2 80000 00002041",
+        b"21 read a m2 0 8 = ok 0000000000000000",
+    ),
+    (
+        b"23 dqbuf a cap = ok 3 0 3 120000 00002041",
+        b"24 read a m3 0 8 = ok 0000000000000000",
+    ),
+];
+
+#[test]
+fn tells_the_frame_at_which_the_engine_fails(rt: HostRuntime) -> Result<(), Fail> {
+    for k in 0..4 {
+        let mut engine = ScriptedEngine::new(vec![in rt.alloc(); k as u64 + 1; 1]?);
+        let words = ["step", "0"];
+        let told = answer_by(rt.alloc(), &words, CAPTURE, &SURE, &mut engine)?;
+        assert_eq!(rt; told.status, 0);
+        for i in 0..4 {
+            let (taken, read) = if i == k { FAILED[i] } else { GOOD[i] };
+            assert!(rt; has_line(told.sink.held(), taken));
+            assert!(rt; has_line(told.sink.held(), read));
+        }
+    }
+    Ok(())
+}
+
+/// An outside with pieces of ten bytes, in which this fails.
+const fn tens(room: usize, source_fails: &'static [u64], sink_fails: &'static [u64]) -> Outside {
+    Outside {
+        piece: 10,
+        room,
+        source_fails,
+        sink_fails,
+    }
+}
+
+#[test]
+fn tells_a_failing_outside(rt: HostRuntime) -> Result<(), Fail> {
+    let script: &[u8] = b"open a\nclose a\n";
+    let (step, run): (&[&str], &[&str]) = (&["step", "0"], &["run", "5"]);
+    let cases: [(&[&str], &[u8], Outside, u8, &[u8]); 9] = [
+        // The script has 15 bytes, and is read by three calls.
+        (step, script, tens(800, &[1], &[]), 4, b""),
+        (step, script, tens(800, &[2], &[]), 4, b""),
+        (step, script, tens(800, &[3], &[]), 4, b""),
+        (step, CAPTURE, tens(800, &[2], &[]), 4, b""),
+        // Words are judged before anything is read.
+        (run, script, tens(800, &[1], &[]), 2, USAGE),
+        (
+            run,
+            script,
+            tens(800, &[1], &[3]),
+            5,
+            b"usage: vmedia check ",
+        ),
+        // The sink takes ten bytes, or fails at its second call.
+        (step, script, tens(10, &[], &[]), 5, b"handle 0 a"),
+        (step, CAPTURE, tens(10, &[], &[]), 5, b"handle 0 a"),
+        (step, script, tens(800, &[], &[2]), 5, b"handle 0 a"),
+    ];
+    for (words, script, outside, status, text) in cases {
+        let told = answer_of(rt.alloc(), words, script, &outside)?;
         assert_eq!(rt; told.status, status);
         assert_eq!(rt; told.sink.held(), text);
     }
@@ -189,34 +284,9 @@ fn tells_runs_faults_and_usage(rt: HostRuntime) -> Result<(), Fail> {
 }
 
 #[test]
-fn tells_a_failing_outside(rt: HostRuntime) -> Result<(), Fail> {
-    let script = b"open a\nclose a\n";
-    for call in 1..4 {
-        let told = answer_of(rt.alloc(), &["step", "0"], script, 10, &[call], &[])?;
-        assert_eq!(rt; told.status, 4);
-        assert_eq!(rt; told.sink.held().len(), 0);
-    }
-    // Words are judged before anything is read.
-    let told = answer_of(rt.alloc(), &["run", "5"], script, 10, &[1], &[])?;
-    assert_eq!(rt; told.status, 2);
-    assert_eq!(rt; told.sink.held(), USAGE);
-    let told = answer_of(rt.alloc(), &["run", "5"], script, 10, &[1], &[3])?;
-    assert_eq!(rt; told.status, 5);
-    assert_eq!(rt; told.sink.held(), &USAGE[..20]);
-    // The text has 119 bytes, so the twelfth write is the last.
-    for call in 1..13 {
-        let told = answer_of(rt.alloc(), &["step", "0"], script, 10, &[], &[call])?;
-        assert_eq!(rt; told.status, 5);
-        let held = 10 * (call as usize - 1);
-        assert_eq!(rt; told.sink.held(), &OPEN_CLOSE[..held]);
-    }
-    Ok(())
-}
-
-#[test]
 fn tells_too_many_bytes_and_statements(rt: HostRuntime) -> Result<(), Fail> {
     let long = vec![in rt.alloc(); b'\n'; 4_194_305]?;
-    let told = answer_of(rt.alloc(), &["step", "0"], &long, 4096, &[], &[])?;
+    let told = answer_of(rt.alloc(), &["step", "0"], &long, &SURE)?;
     assert_eq!(rt; told.status, 3);
     assert_eq!(rt; told.sink.held(), b"script 0 TooLong\n".as_slice());
     let mut many = Vec::new(rt.alloc());
@@ -224,7 +294,7 @@ fn tells_too_many_bytes_and_statements(rt: HostRuntime) -> Result<(), Fail> {
     for _ in 0..1024 {
         many.extend_from_slice(b"close a\n")?;
     }
-    let told = answer_of(rt.alloc(), &["step", "0"], &many, 4096, &[], &[])?;
+    let told = answer_of(rt.alloc(), &["step", "0"], &many, &SURE)?;
     assert_eq!(rt; told.status, 3);
     assert_eq!(rt; told.sink.held(), b"script 1025 TooManyLines\n".as_slice());
     Ok(())

@@ -1,6 +1,6 @@
 use Rattle.std.proofs.Common.{length, arith, ap, ◌∙◌}
 use Rattle.vm_script.specs.Script.{ProcessLines, ScriptLines}
-use Rattle.vm_world.proofs.OpeningLemmas.{handles_within}
+use Rattle.vm_world.proofs.FirstLemmas.{handles_within}
 use Rattle.vm_world.proofs.world.count_handles.Goals as goal
 
 pub overflow_cast-count : goal.overflow_cast-count

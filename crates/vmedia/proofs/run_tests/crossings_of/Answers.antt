@@ -1,5 +1,9 @@
-use Rattle.vmedia.proofs.RunLemmas.{read_script}
+use Rattle.vm_realm.proofs.RunnableLemmas.{read_runnable}
+use Rattle.vm_script.proofs.ScriptLemmas.{script_read}
 use Rattle.vmedia.proofs.run_tests.crossings_of.Goals as goal
 
 pub new-requires-2-clause-read : goal.new-requires-2-clause-read
-new-requires-2-clause-read c = read_script c.args.bytes.now c.in_ok-script.script c.in_ok-script.ensures
+new-requires-2-clause-read c = read_runnable c.in_ok-script.script (script_read c.args.bytes.now c.in_ok-script.script c.requires c.in_ok-script.ensures)
+
+pub run_world-requires : goal.run_world-requires
+run_world-requires c = record { opening = (c.in_ok-script.script, script_read c.args.bytes.now c.in_ok-script.script c.requires c.in_ok-script.ensures, c.in_ok-world.ensures) }

@@ -9,8 +9,8 @@ use Rattle.vmedia.proofs.top.serve.Goals as goal
 pub returns-in_default-clause-ends : goal.returns-in_default-clause-ends
 returns-in_default-clause-ends g c =
     ends_written (map string_bytes c.args.words.now)
-    (outside (g.S.Source.left c.args.src.now) (g.S.Source.faults c.args.src.now) (g.K.Sink.held c.args.sink.now) (g.K.Sink.faults c.args.sink.now))
-    (outside (g.S.Source.left c.args.src.now) (g.S.Source.faults c.args.src.now) (g.K.Sink.held c.write.new.sink) (g.K.Sink.faults c.write.new.sink))
+    (outside (g.S.Source.left c.args.src.now) (g.S.Source.faults c.args.src.now) (g.K.Sink.held c.args.sink.now) (g.K.Sink.faults c.args.sink.now) (g.E.Engine.faults c.args.engine.now))
+    (outside (g.S.Source.left c.args.src.now) (g.S.Source.faults c.args.src.now) (g.K.Sink.held c.write.new.sink) (g.K.Sink.faults c.write.new.sink) (g.E.Engine.faults c.args.engine.now))
     usage_line BadWords c.write.result (sym c.seed_in.ensures ∙ c.in_default.is, refl) c.write.ensures refl (λ ran. cc) (λ bad. refl)
 
 pub returns-in-Ok-clause-ends : goal.returns-in-Ok-clause-ends
@@ -18,7 +18,8 @@ returns-in-Ok-clause-ends g c =
     let P : List ℕ → Type 0 = λ text. IsWritten (sink_view (g.K.Sink.held c.args.sink.now) (g.K.Sink.faults c.args.sink.now))
     (sink_view (g.K.Sink.held c.write-in-Ok.new.sink) (g.K.Sink.faults c.write-in-Ok.new.sink)) text c.in-Ok.answer.ending c.write-in-Ok.result in
     ends_served (map string_bytes c.args.words.now)
-    (outside (g.S.Source.left c.args.src.now) (g.S.Source.faults c.args.src.now) (g.K.Sink.held c.args.sink.now) (g.K.Sink.faults c.args.sink.now))
-    (outside (g.S.Source.left c.answer_to_source.new.src) (g.S.Source.faults c.answer_to_source.new.src) (g.K.Sink.held c.write-in-Ok.new.sink) (g.K.Sink.faults c.write-in-Ok.new.sink))
+    (outside (g.S.Source.left c.args.src.now) (g.S.Source.faults c.args.src.now) (g.K.Sink.held c.args.sink.now) (g.K.Sink.faults c.args.sink.now) (g.E.Engine.faults c.args.engine.now))
+    (outside (g.S.Source.left c.answer_to_source.new.src) (g.S.Source.faults c.answer_to_source.new.src) (g.K.Sink.held c.write-in-Ok.new.sink) (g.K.Sink.faults c.write-in-Ok.new.sink)
+    (g.E.Engine.faults c.answer_to_source.new.engine))
     c.in-Some.seed c.in-Ok.answer.text.items c.in-Ok.answer.ending c.write-in-Ok.result (sym c.seed_in.ensures ∙ c.in-Some.is) c.in-Ok.ensures.ok
     (subst P c.deref.ensures.value c.write-in-Ok.ensures) (c.in-Ok.ensures.well (λ failed. cc)) c.in-Ok.ensures.read

@@ -1,4 +1,0 @@
-pub mod LinesLemmas
-pub mod OrderlyLemmas
-pub mod CallerLemmas
-pub mod GuestLemmas

@@ -1,9 +1,0 @@
-pub mod AskedLemmas
-pub mod LogLemmas
-pub mod RecordLemmas
-pub mod RangeLemmas
-pub mod ReadLemmas
-pub mod AnswerLemmas
-pub mod ExchangeLemmas
-pub mod HandleLemmas
-pub mod StepLemmas

@@ -1,6 +1,0 @@
-use Rattle.std.proofs.Common.{◌≡◌, drop}
-use Rattle.vm_rest_host.specs.Carrier.{written}
-use Rattle.vm_rest_host.proofs.carrier.spread.Given as goal
-
-abbrev pub invariant-loop-desc : goal.invariant-loop-desc
-invariant-loop-desc l = written (drop l.desc-index l.descs) l.rest l.pages ≡ written l.fn.descs l.fn.reply l.fn.pages

@@ -1,4 +1,0 @@
-pub mod CallLemmas
-pub mod FrameLemmas
-pub mod ReadBackLemmas
-pub mod SizeLemmas

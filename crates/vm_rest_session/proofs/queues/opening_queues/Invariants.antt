@@ -1,6 +1,0 @@
-use Rattle.std.proofs.Common.{◌≡◌, replicate}
-use Rattle.vm_rest_session.specs.Session.{opening_queue}
-use Rattle.vm_rest_session.proofs.queues.opening_queues.Given as goal
-
-abbrev pub invariant-loop-k : goal.invariant-loop-k
-invariant-loop-k l = l.queues.items ≡ replicate l._k opening_queue
