@@ -28,6 +28,8 @@ SCRIPT_WORDS = {
     "a", "b", "c9", "cam", "A", "H", "T", "I", "F", "W", "N", "L", "P", "S", "HEX", "LINE", "NUMBER", "NAME", "KIND",
     "WORDS", "REPLY", "CODE", "CAPS", "DEVICECAPS", "WIDTH", "HEIGHT", "BYTESPERLINE", "SIZEIMAGE", "INDEX",
     "SEED", "step", "bulk", "run", "ABCD", "opem", "closse", "GRE", "then",
+    "B", "C", "E", "K", "M", "USED", "SEQUENCE", "TIMESTAMP", "FLAGS", "COUNT", "LENGTH", "PAGES", "ADDRESS", "FRAME",
+    "PENDING",
 }
 # Commands, with their words.
 COMMANDS = {
