@@ -1,13 +1,18 @@
 -- Lemmas on the top call's endings: each has its cause.
-use Rattle.std.proofs.Common.{◌≡◌, ℕ, ◌==◌, ◌≤◌, ◌⊎◌, List, Option, Some, None, Ok, Err, IsSome, IfSome, length, refl, sym, ap, ◌∙◌, subst, arith, inl, inr, if◌then◌else◌}
+use Rattle.std.proofs.Common.{◌≡◌, true, false, ℕ, ◌==◌, ◌≤◌, ◌⊎◌, List, Option, Some, None, Ok, Err, IsSome, IfSome, length, refl, sym, ap, ◌∙◌, subst, arith, inl, inr, if◌then◌else◌}
 use Rattle.vm_io.specs.Bytes.{WasAppended, PartAppended, NothingLeft}
 use Rattle.vm_io.specs.Faults.{Rose}
 use Rattle.vm_script.specs.Script.{ScriptLines}
 use Rattle.vm_script.specs.Grammar.{script_of}
 use Rattle.vmedia.specs.declared.ending.Ending.{Ending}
 use Rattle.vmedia.specs.declared.ending.Ending.TheVariants.{Ran, BadWords, BadScript, SourceFailed, SinkFailed, NoMemory}
-use Rattle.vmedia.specs.Command.{seed_in}
-use Rattle.vmedia.specs.Top.{Outside, failed, Answers, Tells, TellsRun, TellsFault, IsWritten, WroteAll, Wrote, Ends, EndsWith, ReadsWell, status_of, usage_line, script_limit}
+use Rattle.vm_words.specs.declared.command.Command.{Command}
+use Rattle.vm_words.specs.declared.command.Command.TheVariants.{OnScript, Bulk}
+use Rattle.vm_words.specs.declared.command.Task.{Task}
+use Rattle.vm_words.specs.declared.command.Task.TheVariants.{Check, Run}
+use Rattle.vm_words.specs.Command.{command_in, reads_script}
+use Rattle.vmedia.specs.Run.{Failures}
+use Rattle.vmedia.specs.Top.{Outside, failed, Answers, Tells, TellsTask, TellsDone, TellsBad, TellsFault, ReadToEnd, IsWritten, WroteAll, Wrote, Ends, EndsWith, ReadsWell, status_of, usage_line, script_limit}
 
 -- ---- an ending is known by its status
 
@@ -40,11 +45,40 @@ not_faulty bytes text s short reads fault = elim fault [
   | inr faulty ↦ let both : Ok s ≡ Err faulty.1.0 = sym reads ∙ faulty.1.1 in cc
 ]
 
+-- ---- what a command says of the script
+
+-- words that read a script are served
+reads_some : (o : Option Command) → reads_script o ≡ true → IsSome o
+reads_some (Some command) reads = refl
+reads_some None reads = absurd (cc)
+
+same_command : (o : Option Command) (c d : Command) → o ≡ Some c → o ≡ Some d → c ≡ d
+same_command o c d this that = let both : Some c ≡ Some d = sym this ∙ that in cc
+
+-- a fault is told of the source's bytes alone
+bad_told : (command : Command) (left : Option (List ℕ)) (text : List ℕ) → TellsBad command left text → IfSome left (λ b. TellsFault b text)
+bad_told (OnScript task) left text tells = tells
+bad_told (Bulk n) left text tells = absurd tells
+
+-- the bytes of a script that something is told of are one
+abbrev AreScript : List ℕ → Type 0
+AreScript bytes = (s : ScriptLines) × (length bytes ≤ script_limit) × (script_of bytes ≡ Ok s)
+
+task_reads : (task : Task) (fails : Failures) (bytes text : List ℕ) → TellsTask task fails bytes text → AreScript bytes
+task_reads Check fails bytes text tells = (tells.1.0, tells.0, tells.1.1)
+task_reads (Run seed) fails bytes text tells = (tells.1.0, tells.0, tells.1.1)
+
+done_reads : (command : Command) (fails : Failures) (left : Option (List ℕ)) (bytes text : List ℕ) → reads_script (Some command) ≡ true → left ≡ Some bytes → TellsDone command fails left text → AreScript bytes
+done_reads (OnScript task) fails left bytes text reads tells done =
+    let P : Option (List ℕ) → Type 0 = λ o. IfSome o (λ b. TellsTask task fails b text) in
+    task_reads task fails bytes text (subst P tells done)
+done_reads (Bulk n) fails left bytes text reads tells done = absurd (cc)
+
 module _ (words : List (List ℕ)) (before after : Outside) where
   -- ---- what was written, and the ending that goes with it
 
   written_whole : (text : List ℕ) (told : Ending) → Tells words (failed before after) before.source.left told text → WroteAll before.sink after.sink text → ReadsWell before after
-      → (told ≡ Ran → NothingLeft after.source.left) → (told ≡ BadWords → after.source.left ≡ before.source.left) → Ends words before after told
+      → (told ≡ Ran → ReadToEnd words after) → (told ≡ BadWords → after.source.left ≡ before.source.left) → Ends words before after told
   written_whole text Ran tells wrote well read still = ((well, (text, tells, wrote)), read refl)
   written_whole text BadWords tells wrote well read still = ((well, (text, tells, wrote)), still refl)
   written_whole text BadScript tells wrote well read still = (well, (text, tells, wrote))
@@ -53,31 +87,31 @@ module _ (words : List (List ℕ)) (before after : Outside) where
   written_whole text NoMemory tells wrote well read still = absurd tells.2
 
   pub ends_written : (text : List ℕ) (told ending : Ending) → Tells words (failed before after) before.source.left told text → IsWritten before.sink after.sink text told ending → ReadsWell before after
-      → (told ≡ Ran → NothingLeft after.source.left) → (told ≡ BadWords → after.source.left ≡ before.source.left) → Ends words before after ending
+      → (told ≡ Ran → ReadToEnd words after) → (told ≡ BadWords → after.source.left ≡ before.source.left) → Ends words before after ending
   ends_written text told ending tells written well read still =
       let P : Ending → Type 0 = λ e. Ends words before after e in elim written [
         | inl whole ↦ subst P (sym whole.0) (written_whole text told tells whole.1 well read still)
         | inr part ↦ subst P (sym part.0) (well, (told, text, tells, part.1))
       ]
 
-  -- an answer to the source's bytes is one to the words that have the seed
-  tells_served : (seed : ℕ) (told : Ending) (text : List ℕ) → seed_in words ≡ Some seed → Answers seed (failed before after) before.source.left told text → Tells words (failed before after) before.source.left told text
-  tells_served seed Ran text served answers = (seed, served, answers)
-  tells_served seed BadWords text served answers = absurd answers
-  tells_served seed BadScript text served answers = (seed, served, answers)
-  tells_served seed SourceFailed text served answers = absurd answers
-  tells_served seed SinkFailed text served answers = absurd answers
-  tells_served seed NoMemory text served answers = absurd answers
+  -- an answer to a command is one to the words that ask for it
+  tells_served : (command : Command) (told : Ending) (text : List ℕ) → command_in words ≡ Some command → Answers command (failed before after) before.source.left told text → Tells words (failed before after) before.source.left told text
+  tells_served command Ran text served answers = (command, served, answers)
+  tells_served command BadWords text served answers = absurd answers
+  tells_served command BadScript text served answers = (command, served, answers)
+  tells_served command SourceFailed text served answers = absurd answers
+  tells_served command SinkFailed text served answers = absurd answers
+  tells_served command NoMemory text served answers = absurd answers
 
-  served_still : (seed : ℕ) (told : Ending) (text : List ℕ) → Answers seed (failed before after) before.source.left told text → told ≡ BadWords → after.source.left ≡ before.source.left
-  served_still seed told text answers bad =
-      let P : Ending → Type 0 = λ e. Answers seed (failed before after) before.source.left e text in absurd (subst P bad answers)
+  served_still : (command : Command) (told : Ending) (text : List ℕ) → Answers command (failed before after) before.source.left told text → told ≡ BadWords → after.source.left ≡ before.source.left
+  served_still command told text answers bad =
+      let P : Ending → Type 0 = λ e. Answers command (failed before after) before.source.left e text in absurd (subst P bad answers)
 
   -- what was written of an answer to the source's bytes
-  pub ends_served : (seed : ℕ) (text : List ℕ) (told ending : Ending) → seed_in words ≡ Some seed → Answers seed (failed before after) before.source.left told text → IsWritten before.sink after.sink text told ending → ReadsWell before after
-      → (told ≡ Ran → NothingLeft after.source.left) → Ends words before after ending
-  ends_served seed text told ending served answers written well read =
-      ends_written text told ending (tells_served seed told text served answers) written well read (served_still seed told text answers)
+  pub ends_served : (command : Command) (text : List ℕ) (told ending : Ending) → command_in words ≡ Some command → Answers command (failed before after) before.source.left told text → IsWritten before.sink after.sink text told ending → ReadsWell before after
+      → (told ≡ Ran → ReadToEnd words after) → Ends words before after ending
+  ends_served command text told ending served answers written well read =
+      ends_written text told ending (tells_served command told text served answers) written well read (served_still command told text answers)
 
   -- ---- the endings, one by one
 
@@ -97,36 +131,46 @@ module _ (words : List (List ℕ)) (before after : Outside) where
   well_written SinkFailed ends other = absurd (other refl)
   well_written NoMemory ends other = ap (λ sink. sink.faults) ends.2
 
-  of_bad_words : (e : Ending) → Ends words before after e → seed_in words ≡ None → (status_of e ≡ 2) ⊎ (status_of e ≡ 5)
-  of_bad_words Ran ends bad = absurd (not_both (seed_in words) ends.0.1.1.0 ends.0.1.1.1 bad)
+  of_bad_words : (e : Ending) → Ends words before after e → command_in words ≡ None → (status_of e ≡ 2) ⊎ (status_of e ≡ 5)
+  of_bad_words Ran ends bad = absurd (not_both (command_in words) ends.0.1.1.0 ends.0.1.1.1 bad)
   of_bad_words BadWords ends bad = inl refl
-  of_bad_words BadScript ends bad = absurd (not_both (seed_in words) ends.1.1.0 ends.1.1.1 bad)
-  of_bad_words SourceFailed ends bad = absurd (not_served (seed_in words) ends.0 bad)
+  of_bad_words BadScript ends bad = absurd (not_both (command_in words) ends.1.1.0 ends.1.1.1 bad)
+  of_bad_words SourceFailed ends bad = absurd (not_served (command_in words) (reads_some (command_in words) ends.0) bad)
   of_bad_words SinkFailed ends bad = inr refl
-  of_bad_words NoMemory ends bad = absurd (not_served (seed_in words) ends.0 bad)
+  of_bad_words NoMemory ends bad = absurd (not_served (command_in words) ends.0 bad)
 
-  of_script : (e : Ending) → Ends words before after e → (bytes : List ℕ) (s : ScriptLines) → IsSome (seed_in words) → before.source.left ≡ Some bytes → length bytes ≤ script_limit → script_of bytes ≡ Ok s
+  of_script : (e : Ending) → Ends words before after e → (bytes : List ℕ) (s : ScriptLines) → reads_script (command_in words) ≡ true → before.source.left ≡ Some bytes → length bytes ≤ script_limit → script_of bytes ≡ Ok s
       → (Rose before.source.faults after.source.faults → ⊥) → (Rose before.sink.faults after.sink.faults → ⊥) → (status_of e ≡ 0) ⊎ (status_of e ≡ 6)
   of_script Ran ends bytes s served tells short reads source_well sink_well = inl refl
-  of_script BadWords ends bytes s served tells short reads source_well sink_well = absurd (not_served (seed_in words) served ends.0.1.1.0)
+  of_script BadWords ends bytes s served tells short reads source_well sink_well = absurd (not_served (command_in words) (reads_some (command_in words) served) ends.0.1.1.0)
   of_script BadScript ends bytes s served tells short reads source_well sink_well =
       let P : Option (List ℕ) → Type 0 = λ o. IfSome o (λ b. TellsFault b ends.1.0) in
-      absurd (not_faulty bytes ends.1.0 s short reads (subst P tells ends.1.1.2))
+      absurd (not_faulty bytes ends.1.0 s short reads (subst P tells (bad_told ends.1.1.0 before.source.left ends.1.0 ends.1.1.2)))
   of_script SourceFailed ends bytes s served tells short reads source_well sink_well = absurd (source_well ends.1)
   of_script SinkFailed ends bytes s served tells short reads source_well sink_well = absurd (sink_well ends.1.3.0)
   of_script NoMemory ends bytes s served tells short reads source_well sink_well = inr refl
 
-  of_faulty : (e : Ending) → Ends words before after e → (bytes text : List ℕ) → IsSome (seed_in words) → before.source.left ≡ Some bytes → TellsFault bytes text
+  of_faulty : (e : Ending) → Ends words before after e → (bytes text : List ℕ) → reads_script (command_in words) ≡ true → before.source.left ≡ Some bytes → TellsFault bytes text
       → (Rose before.source.faults after.source.faults → ⊥) → (Rose before.sink.faults after.sink.faults → ⊥) → (status_of e ≡ 3) ⊎ (status_of e ≡ 6)
   of_faulty Ran ends bytes text served tells fault source_well sink_well =
-      let P : Option (List ℕ) → Type 0 = λ o. IfSome o (λ b. TellsRun ends.0.1.1.0 (failed before after) b ends.0.1.0) in
-      let runs : TellsRun ends.0.1.1.0 (failed before after) bytes ends.0.1.0 = subst P tells ends.0.1.1.2 in
-      absurd (not_faulty bytes text runs.1.0 runs.0 runs.1.1 fault)
-  of_faulty BadWords ends bytes text served tells fault source_well sink_well = absurd (not_served (seed_in words) served ends.0.1.1.0)
+      let reads : reads_script (Some ends.0.1.1.0) ≡ true = ap reads_script (sym ends.0.1.1.1) ∙ served in
+      let script = done_reads ends.0.1.1.0 (failed before after) before.source.left bytes ends.0.1.0 reads tells ends.0.1.1.2 in
+      absurd (not_faulty bytes text script.0 script.1 script.2 fault)
+  of_faulty BadWords ends bytes text served tells fault source_well sink_well = absurd (not_served (command_in words) (reads_some (command_in words) served) ends.0.1.1.0)
   of_faulty BadScript ends bytes text served tells fault source_well sink_well = inl refl
   of_faulty SourceFailed ends bytes text served tells fault source_well sink_well = absurd (source_well ends.1)
   of_faulty SinkFailed ends bytes text served tells fault source_well sink_well = absurd (sink_well ends.1.3.0)
   of_faulty NoMemory ends bytes text served tells fault source_well sink_well = inr refl
+
+  of_bulk : (e : Ending) → Ends words before after e → (n : ℕ) → command_in words ≡ Some (Bulk n) → (Rose before.sink.faults after.sink.faults → ⊥) → (status_of e ≡ 0) ⊎ (status_of e ≡ 6)
+  of_bulk Ran ends n served sink_well = inl refl
+  of_bulk BadWords ends n served sink_well = absurd (not_both (command_in words) (Bulk n) served ends.0.1.1.0)
+  of_bulk BadScript ends n served sink_well =
+      let P : Command → Type 0 = λ c. TellsBad c before.source.left ends.1.0 in
+      absurd (subst P (same_command (command_in words) ends.1.1.0 (Bulk n) ends.1.1.1 served) ends.1.1.2)
+  of_bulk SourceFailed ends n served sink_well = let both : false ≡ true = sym (ap reads_script served) ∙ ends.0 in absurd (cc)
+  of_bulk SinkFailed ends n served sink_well = absurd (sink_well ends.1.3.0)
+  of_bulk NoMemory ends n served sink_well = inr refl
 
   -- ---- the statuses, one by one
 
@@ -137,18 +181,18 @@ module _ (words : List (List ℕ)) (before after : Outside) where
     either : (a b : ℕ) → (status_of ends.0 ≡ a) ⊎ (status_of ends.0 ≡ b) → (r ≡ a) ⊎ (r ≡ b)
     either a b one = elim one [ inl is ↦ inl (ends.1 ∙ is) | inr is ↦ inr (ends.1 ∙ is) ]
 
-    pub ends_usage : r ≡ 2 → (seed_in words ≡ None) × WasAppended before.sink.held after.sink.held usage_line
+    pub ends_usage : r ≡ 2 → (command_in words ≡ None) × WasAppended before.sink.held after.sink.held usage_line
     ends_usage is =
         let e = ends_as BadWords is in
         (e.0.1.1.0, subst (WasAppended before.sink.held after.sink.held) e.0.1.1.1 e.0.1.2.0)
 
-    pub ends_bad_words : seed_in words ≡ None → (r ≡ 2) ⊎ (r ≡ 5)
+    pub ends_bad_words : command_in words ≡ None → (r ≡ 2) ⊎ (r ≡ 5)
     ends_bad_words bad = either 2 5 (of_bad_words ends.0 ends.2 bad)
 
     pub ends_run : r ≡ 0 → Wrote before.sink.held after.sink.held (Tells words (failed before after) before.source.left Ran)
     ends_run is = let e = ends_as Ran is in (e.0.1.0, e.0.1.1, e.0.1.2.0)
 
-    pub ends_read : r ≡ 0 → NothingLeft after.source.left
+    pub ends_read : r ≡ 0 → ReadToEnd words after
     ends_read is = (ends_as Ran is).1
 
     pub ends_script : r ≡ 3 → Wrote before.sink.held after.sink.held (Tells words (failed before after) before.source.left BadScript)
@@ -170,10 +214,13 @@ module _ (words : List (List ℕ)) (before after : Outside) where
     pub ends_memory : r ≡ 6 → after.sink.held ≡ before.sink.held
     ends_memory is = let e = ends_as NoMemory is in ap (λ sink. sink.held) e.2
 
-    pub ends_complete : (bytes : List ℕ) (s : ScriptLines) → IsSome (seed_in words) → before.source.left ≡ Some bytes → length bytes ≤ script_limit → script_of bytes ≡ Ok s
+    pub ends_complete : (bytes : List ℕ) (s : ScriptLines) → reads_script (command_in words) ≡ true → before.source.left ≡ Some bytes → length bytes ≤ script_limit → script_of bytes ≡ Ok s
         → (Rose before.source.faults after.source.faults → ⊥) → (Rose before.sink.faults after.sink.faults → ⊥) → (r ≡ 0) ⊎ (r ≡ 6)
     ends_complete bytes s served tells short reads source_well sink_well = either 0 6 (of_script ends.0 ends.2 bytes s served tells short reads source_well sink_well)
 
-    pub ends_faulty : (bytes text : List ℕ) → IsSome (seed_in words) → before.source.left ≡ Some bytes → TellsFault bytes text
+    pub ends_bulk : (n : ℕ) → command_in words ≡ Some (Bulk n) → (Rose before.sink.faults after.sink.faults → ⊥) → (r ≡ 0) ⊎ (r ≡ 6)
+    ends_bulk n served sink_well = either 0 6 (of_bulk ends.0 ends.2 n served sink_well)
+
+    pub ends_faulty : (bytes text : List ℕ) → reads_script (command_in words) ≡ true → before.source.left ≡ Some bytes → TellsFault bytes text
         → (Rose before.source.faults after.source.faults → ⊥) → (Rose before.sink.faults after.sink.faults → ⊥) → (r ≡ 3) ⊎ (r ≡ 6)
     ends_faulty bytes text served tells fault source_well sink_well = either 3 6 (of_faulty ends.0 ends.2 bytes text served tells fault source_well sink_well)

@@ -1,3 +1,4 @@
-pub mod Command
+pub mod Bulk
 pub mod Run
 pub mod Top
+pub mod Words

@@ -1,5 +1,5 @@
 -- What the top call answers and writes.
-use Rattle.std.specs.Prelude.{ℕ, ◌≡◌, ◌<◌, ◌≤◌, ◌⊎◌, ◌++◌, List, length, codes, Option, None, Some, Ok, Err, IsSome, IfSome}
+use Rattle.std.specs.Prelude.{ℕ, ◌≡◌, true, ◌<◌, ◌≤◌, ◌⊎◌, ◌++◌, List, length, codes, Option, None, Some, Ok, Err, IsSome, IfSome}
 use Rattle.std.specs.Fmt.{decimal}
 use Rattle.vm_io.specs.Bytes.{NothingLeft, WasAppended, PartAppended}
 use Rattle.vm_io.specs.Faults.{Rose}
@@ -10,7 +10,12 @@ use Rattle.vm_script.specs.Script.{ScriptLines}
 use Rattle.vm_script.specs.Grammar.{script_of}
 use Rattle.vmedia.specs.declared.ending.Ending.{Ending}
 use Rattle.vmedia.specs.declared.ending.Ending.TheVariants.{Ran, BadWords, BadScript, SourceFailed, SinkFailed, NoMemory}
-use Rattle.vmedia.specs.Command.{seed_in}
+use Rattle.vm_words.specs.declared.command.Command.{Command}
+use Rattle.vm_words.specs.declared.command.Command.TheVariants.{OnScript, Bulk}
+use Rattle.vm_words.specs.declared.command.Task.{Task}
+use Rattle.vm_words.specs.declared.command.Task.TheVariants.{Check, Run}
+use Rattle.vmedia.specs.Bulk.{IsBulk, IsCounted}
+use Rattle.vm_words.specs.Command.{command_in, reads_script}
 use Rattle.vmedia.specs.Run.{Failures, failures, IsRun}
 
 -- how many bytes a script has at most
@@ -57,19 +62,41 @@ TellsRun seed fails bytes text =
     (length bytes ≤ script_limit) ×
     ((s : ScriptLines) × (script_of bytes ≡ Ok s) × IsRun seed fails s text)
 
--- The text answers the source's bytes, where it tells them, to the command line with this seed.
-abbrev pub Answers : ℕ → Failures → Option (List ℕ) → Ending → List ℕ → Type 0
-Answers seed fails left Ran text = IfSome left (λ bytes. TellsRun seed fails bytes text)
-Answers seed fails left BadScript text = IfSome left (λ bytes. TellsFault bytes text)
-Answers seed fails left ending text = ⊥
+-- The bytes are a script, and the text tells how many processes and statements it has.
+abbrev pub TellsCheck : List ℕ → List ℕ → Type 0
+TellsCheck bytes text =
+    (length bytes ≤ script_limit) ×
+    ((s : ScriptLines) × (script_of bytes ≡ Ok s) × IsCounted s text)
+
+-- the text is what is told of a script's bytes
+abbrev pub TellsTask : Task → Failures → List ℕ → List ℕ → Type 0
+TellsTask Check fails bytes text = TellsCheck bytes text
+TellsTask (Run seed) fails bytes text = TellsRun seed fails bytes text
+
+-- The text is what is told where the command is done: of the source's bytes, where it tells them, or
+-- of the script that is made.
+abbrev pub TellsDone : Command → Failures → Option (List ℕ) → List ℕ → Type 0
+TellsDone (OnScript task) fails left text = IfSome left (λ bytes. TellsTask task fails bytes text)
+TellsDone (Bulk n) fails left text = IsBulk n fails text
+
+-- The text is what is told where the script is faulty. A script that is made is not.
+abbrev pub TellsBad : Command → Option (List ℕ) → List ℕ → Type 0
+TellsBad (OnScript task) left text = IfSome left (λ bytes. TellsFault bytes text)
+TellsBad (Bulk n) left text = ⊥
+
+-- The text answers the source's bytes, where it tells them, to this command.
+abbrev pub Answers : Command → Failures → Option (List ℕ) → Ending → List ℕ → Type 0
+Answers command fails left Ran text = TellsDone command fails left text
+Answers command fails left BadScript text = TellsBad command left text
+Answers command fails left ending text = ⊥
 
 -- The text answers these words and the source's bytes, and this ending goes with it. Three endings
 -- have no text.
 abbrev pub Tells :
     List (List ℕ) → Failures → Option (List ℕ) → Ending → List ℕ → Type 0
-Tells words fails left BadWords text = (seed_in words ≡ None) × (text ≡ usage_line)
+Tells words fails left BadWords text = (command_in words ≡ None) × (text ≡ usage_line)
 Tells words fails left ending text =
-    (seed : ℕ) × (seed_in words ≡ Some seed) × Answers seed fails left ending text
+    (command : Command) × (command_in words ≡ Some command) × Answers command fails left ending text
 
 -- ---- the outside
 
@@ -142,14 +169,18 @@ IsTold words before after ending =
     × ((text : List ℕ) × Tells words (failed before after) before.source.left ending text ×
     WroteAll before.sink after.sink text)
 
+-- a script that the words read was read to its end
+abbrev pub ReadToEnd : List (List ℕ) → Outside → Type 0
+ReadToEnd words after = reads_script (command_in words) ≡ true → NothingLeft after.source.left
+
 -- How the program ends: what each ending says of the words, and of the outside before and after.
 abbrev pub Ends : List (List ℕ) → Outside → Outside → Ending → Type 0
-Ends words before after Ran = IsTold words before after Ran × NothingLeft after.source.left
+Ends words before after Ran = IsTold words before after Ran × ReadToEnd words after
 Ends words before after BadWords =
     IsTold words before after BadWords × (after.source.left ≡ before.source.left)
 Ends words before after BadScript = IsTold words before after BadScript
 Ends words before after SourceFailed =
-    IsSome (seed_in words) × Rose before.source.faults after.source.faults ×
+    (reads_script (command_in words) ≡ true) × Rose before.source.faults after.source.faults ×
     (after.sink ≡ before.sink)
 Ends words before after SinkFailed =
     ReadsWell before after
@@ -157,7 +188,7 @@ Ends words before after SinkFailed =
     × Tells words (failed before after) before.source.left told text
     × WrotePart before.sink after.sink text)
 Ends words before after NoMemory =
-    IsSome (seed_in words) × ReadsWell before after × (after.sink ≡ before.sink)
+    IsSome (command_in words) × ReadsWell before after × (after.sink ≡ before.sink)
 
 -- The program ends with this status.
 abbrev pub EndsWith : List (List ℕ) → Outside → Outside → ℕ → Type 0

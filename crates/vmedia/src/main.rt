@@ -1,7 +1,8 @@
 //! Both ends of a paravirtual media device in one program.
 //!
-//! `vmedia step SEED` reads a script from standard input, runs its process's V4L2 calls over a
-//! driver, a link and a device, and prints each handle's log.
+//! `vmedia step SEED` reads a script from standard input, runs its processes' V4L2 calls over a
+//! driver, a link and a device, and prints each handle's log. `vmedia check` reads a script alone,
+//! and `vmedia bulk N` makes one, runs it and prints what it took.
 #![tactic(auto)]
 
 use ending::Ending;
@@ -10,8 +11,9 @@ use top::{top_bad_words, top_plain};
 use vm_io::{StdSink, StdSource, SureEngine};
 use words::{WordsError, words_of};
 
+mod bulk;
+mod count;
 mod ending;
-mod judge;
 mod run;
 #[cfg(test)]
 mod run_tests;

@@ -1,24 +1,27 @@
 //! The top call: words, bytes and an outside in, a status and a text out.
 
-ghost use Rattle.std.specs.Prelude.{◌≡◌, ◌≤◌, ◌⊎◌, List, ℕ, None, Some, Ok, Err, IfOk, IsErrOf, IsSome, length, map};
+ghost use Rattle.std.specs.Prelude.{◌≡◌, ◌≤◌, ◌⊎◌, List, ℕ, true, false, Option, None, Some, Ok, Err, IfOk, IfSome, IsErrOf, length, map};
 ghost use Rattle.std.specs.String.{string_bytes};
 ghost use Rattle.vm_io.specs.Bytes.{NothingLeft, WasAppended, PartAppended};
 ghost use Rattle.vm_io.specs.Faults.{Rose};
 ghost use Rattle.vm_script.specs.Grammar.{script_of};
+ghost use Rattle.vm_script.specs.Reading.{IsReadScript};
 ghost use Rattle.vm_script.specs.Script.{ScriptLines};
 ghost use Rattle.vmedia.specs.declared.ending.Ending.{Ending};
-ghost use Rattle.vmedia.specs.Command.{seed_in};
+ghost use Rattle.vm_words.specs.declared.command.Command.TheVariants.{OnScript, Bulk};
+ghost use Rattle.vm_words.specs.Command.{command_in, reads_script, IsServed};
 ghost use Rattle.vmedia.specs.Run.{failures};
-ghost use Rattle.vmedia.specs.Top.{script_limit, kind_text, fault_line, too_long_line, usage_line, Answers, Tells, TellsFault, IsWritten, Wrote, Ends, EndsWith, outside, sink_view};
+ghost use Rattle.vmedia.specs.Top.{script_limit, kind_text, fault_line, too_long_line, usage_line, Answers, Tells, TellsFault, TellsTask, IsWritten, Wrote, Ends, EndsWith, outside, sink_view};
 
+use crate::bulk::{bulk, check};
 use crate::ending::Ending;
-use crate::judge::seed_in;
 use crate::run::run;
 use crate::text::{push, push_number};
 use std::alloc::Global;
 use vm_io::{Engine, ReadError, Sink, Source, WriteFault, read_all, write_all};
 use vm_mem::Memory;
-use vm_script::{ScriptError, ScriptKind, read_script};
+use vm_script::{Script, ScriptError, ScriptKind, read_script};
+use vm_words::{Command, Task, command_of};
 
 /// How many bytes a script has at most.
 const SCRIPT_LIMIT: usize = 4_194_304;
@@ -72,7 +75,7 @@ fn fault_line(alloc: Global, line: u32, kind: &[u8]) -> Result<Vec<u8>, Memory>
 {
     let mut text = Vec::new(alloc);
     push(&mut text, b"script ")?;
-    push_number(&mut text, line)?;
+    push_number(&mut text, u64::from(line))?;
     push(&mut text, b" ")?;
     push(&mut text, kind)?;
     push(&mut text, b"\n")?;
@@ -89,21 +92,39 @@ fn too_long(alloc: Global) -> Result<Answer, Memory>
     })
 }
 
+// What is told of a script.
+fn text_of<E: Engine>(
+    alloc: Global,
+    script: Script,
+    task: Task,
+    engine: &mut E,
+) -> Result<Vec<u8>, Memory>
+    requires { IsReadScript script }
+    ensures { (bytes : List ℕ) → length bytes ≤ script_limit → script_of bytes ≡ Ok script →
+        IfOk result (λ text. TellsTask task (failures (E.faults engine.old)
+        (E.faults engine.new)) bytes text.items) }
+{
+    match task {
+        Task::Check => check(alloc, &script),
+        Task::Run { seed } => run(alloc, script, seed, engine),
+    }
+}
+
 // What is answered to a script's bytes.
 fn answer_to_bytes<E: Engine>(
     alloc: Global,
     bytes: &[u8],
-    seed: u64,
+    task: Task,
     engine: &mut E,
 ) -> Result<Answer, Memory>
     requires { length bytes.now ≤ script_limit }
-    ensures { IfOk result (λ a. Answers seed (failures (E.faults engine.old)
+    ensures { IfOk result (λ a. Answers (OnScript task) (failures (E.faults engine.old)
         (E.faults engine.new)) (Some bytes.now) a.ending a.text.items) }
 {
     match read_script(alloc, bytes) {
         Ok(script) => Ok(Answer {
             ending: Ending::Ran,
-            text: run(alloc, script, seed, engine)?,
+            text: text_of(alloc, script, task, engine)?,
         }),
         Err(ScriptError::Fault(fault)) => Ok(Answer {
             ending: Ending::BadScript,
@@ -117,22 +138,57 @@ fn answer_to_bytes<E: Engine>(
 fn answer_to_source<S: Source, E: Engine>(
     alloc: Global,
     src: &mut S,
-    seed: u64,
+    task: Task,
     engine: &mut E,
 ) -> Result<Answer, Failure>
-    ensures ok { IfOk result (λ a. Answers seed (failures (E.faults engine.old)
+    ensures ok { IfOk result (λ a. Answers (OnScript task) (failures (E.faults engine.old)
         (E.faults engine.new)) (S.left src.old) a.ending a.text.items) }
     ensures read { IfOk result (λ a. a.ending ≡ Ending.Ran → NothingLeft (S.left src.new)) }
     ensures source { IsErrOf result Failure.Source → Rose (S.faults src.old) (S.faults src.new) }
     ensures well { ¬ (IsErrOf result Failure.Source) → S.faults src.new ≡ S.faults src.old }
 {
     let answer = match read_all(alloc, src, SCRIPT_LIMIT) {
-        Ok(bytes) => answer_to_bytes(alloc, &bytes, seed, engine)?,
+        Ok(bytes) => answer_to_bytes(alloc, &bytes, task, engine)?,
         Err(ReadError::TooLong) => too_long(alloc)?,
         Err(ReadError::ReadFault) => return Err(Failure::Source),
         Err(ReadError::Memory) => return Err(Failure::Memory),
     };
     Ok(answer)
+}
+
+// What is answered to a bulk run of so many processes, whatever the source has.
+fn answer_to_bulk<E: Engine>(alloc: Global, n: u32, engine: &mut E) -> Result<Answer, Memory>
+    requires { IsServed (Bulk n) }
+    ensures { (left : Option (List ℕ)) → IfOk result (λ a. Answers (Bulk n)
+        (failures (E.faults engine.old) (E.faults engine.new)) left a.ending a.text.items) }
+{
+    Ok(Answer {
+        ending: Ending::Ran,
+        text: bulk(alloc, n, engine)?,
+    })
+}
+
+// What is answered to a command.
+fn answer_to<S: Source, E: Engine>(
+    alloc: Global,
+    command: Command,
+    src: &mut S,
+    engine: &mut E,
+) -> Result<Answer, Failure>
+    requires { IsServed command }
+    ensures ok { IfOk result (λ a. Answers command (failures (E.faults engine.old)
+        (E.faults engine.new)) (S.left src.old) a.ending a.text.items) }
+    ensures read { IfOk result (λ a. a.ending ≡ Ending.Ran →
+        reads_script (Some command) ≡ true → NothingLeft (S.left src.new)) }
+    ensures source { IsErrOf result Failure.Source → (reads_script (Some command) ≡ true)
+        × Rose (S.faults src.old) (S.faults src.new) }
+    ensures well { ¬ (IsErrOf result Failure.Source) → S.faults src.new ≡ S.faults src.old }
+    ensures untouched { reads_script (Some command) ≡ false → src.new ≡ src.old }
+{
+    match command {
+        Command::OnScript(task) => answer_to_source(alloc, src, task, engine),
+        Command::Bulk { n } => Ok(answer_to_bulk(alloc, n, engine)?),
+    }
 }
 
 // Writes a text, and gives its ending, or that of a failing sink. A write that failed isn't tried
@@ -144,6 +200,32 @@ fn write<K: Sink>(sink: &mut K, text: &[u8], told: Ending) -> Ending
     match write_all(sink, text) {
         Ok(()) => told,
         Err(WriteFault) => Ending::SinkFailed,
+    }
+}
+
+// Does what judged words ask for.
+fn serve_judged<S: Source, K: Sink, E: Engine>(
+    alloc: Global,
+    judged: Option<Command>,
+    src: &mut S,
+    sink: &mut K,
+    engine: &mut E,
+) -> Ending
+    requires { IfSome judged IsServed }
+    ensures ends { (words : List (List ℕ)) → judged ≡ command_in words → Ends words
+        (outside (S.left src.old) (S.faults src.old) (K.held sink.old) (K.faults sink.old)
+        (E.faults engine.old))
+        (outside (S.left src.new) (S.faults src.new) (K.held sink.new) (K.faults sink.new)
+        (E.faults engine.new)) result }
+    ensures untouched { reads_script judged ≡ false → src.new ≡ src.old }
+{
+    let Some(command) = judged else {
+        return write(sink, USAGE, Ending::BadWords);
+    };
+    match answer_to(alloc, command, src, engine) {
+        Ok(answer) => write(sink, &answer.text, answer.ending),
+        Err(Failure::Source) => Ending::SourceFailed,
+        Err(Failure::Memory) => Ending::NoMemory,
     }
 }
 
@@ -160,24 +242,22 @@ fn serve<S: Source, K: Sink, E: Engine>(
         (E.faults engine.old))
         (outside (S.left src.new) (S.faults src.new) (K.held sink.new) (K.faults sink.new)
         (E.faults engine.new)) result }
-    ensures untouched { seed_in (map string_bytes words.now) ≡ None → src.new ≡ src.old }
+    ensures untouched { reads_script (command_in (map string_bytes words.now)) ≡ false →
+        src.new ≡ src.old }
 {
-    let Some(seed) = seed_in(words) else {
-        return write(sink, USAGE, Ending::BadWords);
-    };
-    match answer_to_source(alloc, src, seed, engine) {
-        Ok(answer) => write(sink, &answer.text, answer.ending),
-        Err(Failure::Source) => Ending::SourceFailed,
-        Err(Failure::Memory) => Ending::NoMemory,
+    match command_of(alloc, words) {
+        Ok(judged) => serve_judged(alloc, judged, src, sink, engine),
+        Err(Memory) => Ending::NoMemory,
     }
 }
 
-/// Serves the words of a command line: reads the source, judges the script, runs it, and writes its
-/// text to the sink. The result is the status with which the program ends.
+/// Serves the words of a command line: reads the source, judges the script, counts or runs it, and
+/// writes what there is to tell to the sink. `bulk` makes its script, and leaves the source alone.
+/// The result is the status with which the program ends.
 ///
 /// | Status | Only where | Written |
 /// |---|---|---|
-/// | 0 | the script was read to its end and run | the printed text |
+/// | 0 | the script was read to its end or made, and counted or run | what is told of it |
 /// | 2 | the words are none of the command lines that are served | the usage line |
 /// | 3 | the script has a faulty line, or too many bytes | the line that tells the fault |
 /// | 4 | the source failed | nothing |
@@ -197,18 +277,22 @@ pub fn top_plain<S: Source, K: Sink, E: Engine>(
     engine: &mut E,
 ) -> u8
     // The usage line was written whole, and the words are none of the served command lines.
-    ensures usage { result ≡ 2 → (seed_in (map string_bytes words.now) ≡ None)
+    ensures usage { result ≡ 2 → (command_in (map string_bytes words.now) ≡ None)
         × WasAppended (K.held sink.old) (K.held sink.new) usage_line }
     // Such words have no other status, unless the sink fails.
-    ensures bad_words { seed_in (map string_bytes words.now) ≡ None → (result ≡ 2) ⊎ (result ≡ 5) }
-    // For them the source isn't touched.
-    ensures untouched { seed_in (map string_bytes words.now) ≡ None → src.new ≡ src.old }
-    // The bytes are a script, and what was written is the text of a legal run of it.
+    ensures bad_words { command_in (map string_bytes words.now) ≡ None →
+        (result ≡ 2) ⊎ (result ≡ 5) }
+    // For them, and for `bulk`, the source isn't touched.
+    ensures untouched { reads_script (command_in (map string_bytes words.now)) ≡ false →
+        src.new ≡ src.old }
+    // The bytes are a script, and what was written tells how many processes and statements it has,
+    // or is the text of a legal run of it; or it tells of such a run of the script that was made.
     ensures run { result ≡ 0 → Wrote (K.held sink.old) (K.held sink.new)
         (Tells (map string_bytes words.now) (failures (E.faults engine.old)
         (E.faults engine.new)) (S.left src.old) Ending.Ran) }
-    // They were read to their end.
-    ensures read { result ≡ 0 → NothingLeft (S.left src.new) }
+    // The bytes were read to their end.
+    ensures read { result ≡ 0 → reads_script (command_in (map string_bytes words.now)) ≡ true →
+        NothingLeft (S.left src.new) }
     // The bytes are no script, or too many, and what was written tells the first fault.
     ensures script { result ≡ 3 → Wrote (K.held sink.old) (K.held sink.new)
         (Tells (map string_bytes words.now) (failures (E.faults engine.old)
@@ -230,13 +314,18 @@ pub fn top_plain<S: Source, K: Sink, E: Engine>(
     ensures memory { result ≡ 6 → K.held sink.new ≡ K.held sink.old }
     // Good words and a script lead to a run, unless memory is wanting or the outside fails.
     ensures complete { (bytes : List ℕ) (s : ScriptLines)
-        → IsSome (seed_in (map string_bytes words.now)) → S.left src.old ≡ Some bytes
+        → reads_script (command_in (map string_bytes words.now)) ≡ true
+        → S.left src.old ≡ Some bytes
         → length bytes ≤ script_limit → script_of bytes ≡ Ok s
         → ¬ Rose (S.faults src.old) (S.faults src.new)
         → ¬ Rose (K.faults sink.old) (K.faults sink.new) → (result ≡ 0) ⊎ (result ≡ 6) }
+    // So does `bulk`, whatever the source has.
+    ensures bulk { (n : ℕ) → command_in (map string_bytes words.now) ≡ Some (Bulk n)
+        → ¬ Rose (K.faults sink.old) (K.faults sink.new) → (result ≡ 0) ⊎ (result ≡ 6) }
     // Good words and a faulty script lead to its fault, with the same exceptions.
     ensures faulty { (bytes text : List ℕ)
-        → IsSome (seed_in (map string_bytes words.now)) → S.left src.old ≡ Some bytes
+        → reads_script (command_in (map string_bytes words.now)) ≡ true
+        → S.left src.old ≡ Some bytes
         → TellsFault bytes text
         → ¬ Rose (S.faults src.old) (S.faults src.new)
         → ¬ Rose (K.faults sink.old) (K.faults sink.new) → (result ≡ 3) ⊎ (result ≡ 6) }

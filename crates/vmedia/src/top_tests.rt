@@ -1,3 +1,4 @@
+mod programs;
 pub(crate) mod rows;
 
 use crate::top::top_plain;

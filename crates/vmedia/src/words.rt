@@ -18,7 +18,7 @@ pub enum WordsError {
 
 impl From<io::Error> for WordsError {
     ghost use Rattle.std.specs.IoError.{error_kind};
-    ghost use Rattle.vmedia.specs.Command.{words_error};
+    ghost use Rattle.vmedia.specs.Words.{words_error};
 
     ghost from_gives = { λ error cause. cause ≡ words_error (error_kind error) };
 

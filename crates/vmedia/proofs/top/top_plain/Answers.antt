@@ -2,7 +2,7 @@
 use Rattle.std.proofs.Common.{map}
 use Rattle.std.specs.String.{string_bytes}
 use Rattle.vmedia.specs.Top.{outside}
-use Rattle.vmedia.proofs.EndsLemmas.{ends_usage, ends_bad_words, ends_run, ends_read, ends_script, ends_source, ends_reads_well, ends_sink, ends_writes_well, ends_memory, ends_complete, ends_faulty}
+use Rattle.vmedia.proofs.EndsLemmas.{ends_usage, ends_bad_words, ends_run, ends_read, ends_script, ends_source, ends_reads_well, ends_sink, ends_writes_well, ends_memory, ends_complete, ends_bulk, ends_faulty}
 use Rattle.vmedia.proofs.top.top_plain.Goals as goal
 
 pub returns-clause-usage : goal.returns-clause-usage
@@ -78,6 +78,13 @@ returns-clause-memory g c =
 pub returns-clause-complete : goal.returns-clause-complete
 returns-clause-complete g c =
     ends_complete (map string_bytes c.args.words.now)
+    (outside (g.S.Source.left c.args.src.now) (g.S.Source.faults c.args.src.now) (g.K.Sink.held c.args.sink.now) (g.K.Sink.faults c.args.sink.now) (g.E.Engine.faults c.args.engine.now))
+    (outside (g.S.Source.left c.serve.new.src) (g.S.Source.faults c.serve.new.src) (g.K.Sink.held c.serve.new.sink) (g.K.Sink.faults c.serve.new.sink) (g.E.Engine.faults c.serve.new.engine))
+    c.status.result (c.serve.result, c.status.ensures, c.serve.ensures.ends)
+
+pub returns-clause-bulk : goal.returns-clause-bulk
+returns-clause-bulk g c =
+    ends_bulk (map string_bytes c.args.words.now)
     (outside (g.S.Source.left c.args.src.now) (g.S.Source.faults c.args.src.now) (g.K.Sink.held c.args.sink.now) (g.K.Sink.faults c.args.sink.now) (g.E.Engine.faults c.args.engine.now))
     (outside (g.S.Source.left c.serve.new.src) (g.S.Source.faults c.serve.new.src) (g.K.Sink.held c.serve.new.sink) (g.K.Sink.faults c.serve.new.sink) (g.E.Engine.faults c.serve.new.engine))
     c.status.result (c.serve.result, c.status.ensures, c.serve.ensures.ends)

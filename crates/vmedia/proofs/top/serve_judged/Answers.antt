@@ -1,25 +1,26 @@
 -- What was written, and what was read before, as an ending.
-use Rattle.std.proofs.Common.{List, ℕ, map, refl, sym, ◌∙◌, subst}
-use Rattle.std.specs.String.{string_bytes}
+use Rattle.std.proofs.Common.{◌≡◌, List, ℕ, Some, refl, sym, ap, ◌∙◌, subst}
 use Rattle.vmedia.specs.declared.ending.Ending.TheVariants.{BadWords}
+use Rattle.vm_words.specs.Command.{command_in, reads_script}
 use Rattle.vmedia.specs.Top.{IsWritten, outside, sink_view, usage_line}
 use Rattle.vmedia.proofs.EndsLemmas.{ends_served, ends_written}
-use Rattle.vmedia.proofs.top.serve.Goals as goal
+use Rattle.vmedia.proofs.top.serve_judged.Goals as goal
 
 pub returns-in_default-clause-ends : goal.returns-in_default-clause-ends
-returns-in_default-clause-ends g c =
-    ends_written (map string_bytes c.args.words.now)
+returns-in_default-clause-ends g c = λ words asked.
+    ends_written words
     (outside (g.S.Source.left c.args.src.now) (g.S.Source.faults c.args.src.now) (g.K.Sink.held c.args.sink.now) (g.K.Sink.faults c.args.sink.now) (g.E.Engine.faults c.args.engine.now))
     (outside (g.S.Source.left c.args.src.now) (g.S.Source.faults c.args.src.now) (g.K.Sink.held c.write.new.sink) (g.K.Sink.faults c.write.new.sink) (g.E.Engine.faults c.args.engine.now))
-    usage_line BadWords c.write.result (sym c.seed_in.ensures ∙ c.in_default.is, refl) c.write.ensures refl (λ ran. cc) (λ bad. refl)
+    usage_line BadWords c.write.result (sym asked ∙ c.in_default.is, refl) c.write.ensures refl (λ ran. cc) (λ bad. refl)
 
 pub returns-in-Ok-clause-ends : goal.returns-in-Ok-clause-ends
-returns-in-Ok-clause-ends g c =
+returns-in-Ok-clause-ends g c = λ words asked.
     let P : List ℕ → Type 0 = λ text. IsWritten (sink_view (g.K.Sink.held c.args.sink.now) (g.K.Sink.faults c.args.sink.now))
     (sink_view (g.K.Sink.held c.write-in-Ok.new.sink) (g.K.Sink.faults c.write-in-Ok.new.sink)) text c.in-Ok.answer.ending c.write-in-Ok.result in
-    ends_served (map string_bytes c.args.words.now)
+    let served : command_in words ≡ Some c.in-Some.command = sym asked ∙ c.in-Some.is in
+    ends_served words
     (outside (g.S.Source.left c.args.src.now) (g.S.Source.faults c.args.src.now) (g.K.Sink.held c.args.sink.now) (g.K.Sink.faults c.args.sink.now) (g.E.Engine.faults c.args.engine.now))
-    (outside (g.S.Source.left c.answer_to_source.new.src) (g.S.Source.faults c.answer_to_source.new.src) (g.K.Sink.held c.write-in-Ok.new.sink) (g.K.Sink.faults c.write-in-Ok.new.sink)
-    (g.E.Engine.faults c.answer_to_source.new.engine))
-    c.in-Some.seed c.in-Ok.answer.text.items c.in-Ok.answer.ending c.write-in-Ok.result (sym c.seed_in.ensures ∙ c.in-Some.is) c.in-Ok.ensures.ok
-    (subst P c.deref.ensures.value c.write-in-Ok.ensures) (c.in-Ok.ensures.well (λ failed. cc)) c.in-Ok.ensures.read
+    (outside (g.S.Source.left c.answer_to.new.src) (g.S.Source.faults c.answer_to.new.src) (g.K.Sink.held c.write-in-Ok.new.sink) (g.K.Sink.faults c.write-in-Ok.new.sink)
+    (g.E.Engine.faults c.answer_to.new.engine))
+    c.in-Some.command c.in-Ok.answer.text.items c.in-Ok.answer.ending c.write-in-Ok.result served c.in-Ok.ensures.ok
+    (subst P c.deref.ensures.value c.write-in-Ok.ensures) (c.in-Ok.ensures.well (λ failed. cc)) (λ ran reads. c.in-Ok.ensures.read ran (ap reads_script (sym served) ∙ reads))

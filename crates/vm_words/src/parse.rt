@@ -1,0 +1,81 @@
+//! Reads words that were judged, with `clap`.
+
+ghost use Rattle.std.specs.Prelude.{◌≡◌, ℕ, List, Some, IfOk, IfErr, IsErr, IsSome, IfSome, map, option_map};
+ghost use Rattle.std.specs.String.{string_bytes};
+ghost use Rattle.clap.specs.Words.{app_of, kind_of, subcommand_rows_of};
+ghost use Rattle.vm_words.specs.Command.{command_in, IsServed};
+ghost use Rattle.vm_words.specs.Program.{program, words_told};
+
+use crate::command::Command;
+use crate::judge::{command_alone, command_in, command_with};
+use clap::error::ErrorKind;
+use clap::{Arg, ArgMatches, Command as Program, Error};
+use std::alloc::Global;
+use vm_mem::Memory;
+
+/// The id of the value behind a subcommand.
+const NUMBER: &str = "NUMBER";
+
+/// The program, with its subcommands.
+fn program<'a>(alloc: Global) -> Result<Program<'a>, Error>
+    ensures ok { IfOk result (λ program_told. app_of program_told ≡ program) }
+    ensures err { IfErr result (λ e. kind_of e ≡ ErrorKind.OutOfMemory) }
+{
+    let check = Program::new(alloc, "check");
+    let step = Program::new(alloc, "step").arg(Arg::new(alloc, NUMBER))?;
+    let bulk = Program::new(alloc, "bulk").arg(Arg::new(alloc, NUMBER))?;
+    let program = Program::new(alloc, "vmedia")
+        .no_binary_name(true)
+        .subcommand(check)?
+        .subcommand(step)?
+        .subcommand(bulk)?;
+    Ok(program)
+}
+
+/// The matches of words that were judged: they tell just these words.
+///
+/// # Errors
+/// `OutOfMemory` alone.
+fn matches<'a>(alloc: Global, words: &'a [String]) -> Result<ArgMatches<'a>, Error>
+    requires { IsSome (command_in (map string_bytes words.now)) }
+    ensures ok { IfOk result (λ m. option_map words_told (subcommand_rows_of m)
+        ≡ Some (map string_bytes words.entry.now)) }
+    ensures err { IfErr result (λ e. kind_of e ≡ ErrorKind.OutOfMemory) }
+{
+    program(alloc)?.try_get_matches_from(words)
+}
+
+/// What matches ask for.
+fn command_told(matches: &ArgMatches) -> Option<Command>
+    ensures command { (words : List (List ℕ)) →
+        option_map words_told (subcommand_rows_of matches.now) ≡ Some words →
+        result ≡ command_in words }
+    ensures served { IfSome result IsServed }
+{
+    let (name, line) = matches.subcommand()?;
+    match line.get_str(NUMBER) {
+        None => command_alone(name.as_bytes()),
+        Some(number) => command_with(name.as_bytes(), number.as_bytes()),
+    }
+}
+
+/// What the words of the command line ask for: `None` exactly where they are none of the command
+/// lines that are served. They are judged first, which takes no memory.
+///
+/// Source: own.
+///
+/// # Errors
+/// `Memory` where there is none to read words that are served.
+pub fn command_of(alloc: Global, words: &[String]) -> Result<Option<Command>, Memory>
+    ensures command { IfOk result (λ command. command ≡ command_in (map string_bytes words.now)) }
+    ensures served { IfOk result (λ command. IfSome command IsServed) }
+    ensures memory { IsErr result → IsSome (command_in (map string_bytes words.now)) }
+{
+    if command_in(words).is_none() {
+        return Ok(None);
+    }
+    match matches(alloc, words) {
+        Ok(matches) => Ok(command_told(&matches)),
+        Err(_wanting) => Err(Memory),
+    }
+}
