@@ -1,5 +1,5 @@
 -- A bulk run's script is read: each line of a process is fine behind those before it, and so is each process.
-use Rattle.std.proofs.Common.{◌≡◌, ℕ, zero, suc, ◌+◌, ◌*◌, ◌%◌, ◌<◌, ◌≤◌, ◌==◌, ◌&&◌, Bool, true, false, not, Option, Some, None, Result, Ok, Err, List, [], ◌∷◌, ◌++◌, if◌then◌else◌, length, nat_le, nat_lt, codes, refl, ap, sym, ◌∙◌, subst, arith, append_assoc, length-append}
+use Rattle.std.proofs.Common.{◌≡◌, ℕ, zero, suc, ◌+◌, ◌*◌, ◌%◌, ◌<◌, ◌≤◌, ◌==◌, ◌&&◌, Bool, true, false, Option, Some, None, Result, Ok, Err, List, [], ◌∷◌, ◌++◌, if◌then◌else◌, length, nat_le, nat_lt, codes, refl, ap, sym, ◌∙◌, subst, arith, append_assoc, length-append}
 use Rattle.std.specs.Fmt.{digits}
 use Rattle.std.specs.List.{list_all}
 use Rattle.std.proofs.lemmas.Bool.Decides.{nat_tests}
@@ -17,7 +17,7 @@ use Rattle.vm_script.specs.Grammar.{at_line, with_line, with_lines, drafted, as_
 use Rattle.vm_script.specs.Script.{ProcessLines, ScriptLines}
 use Rattle.vm_script.proofs.LineLemmas.{with_lines_ok}
 use Rattle.vm_script.proofs.WordLemmas.{is_whole, piece_then}
-use Rattle.vm_bulk.specs.Bulk.{ended, below, numbered, format_line, choosing, mapping, queueing, taking, unmapping, statements, process_lines, bulk_text}
+use Rattle.vm_bulk.specs.Bulk.{ended, below, numbered, format_line, mapping, queueing, taking, unmapping, statements, process_lines, bulk_text}
 use Rattle.vm_bulk.proofs.BehindLemmas.{Names, Ready, behind, behind_append, AreRead, Leads, leads_first, leads_then, lines_read}
 
 -- ---- what is tried for each process
@@ -134,7 +134,7 @@ proc_read d number room =
 later_lines : (k : ℕ) → process_lines (suc k) ≡ codes "proc" ∷ statements (suc k)
 later_lines k =
     let later : (suc k == 0) ≡ false = grind (arith, nat_tests) in
-    let L : Bool → List (List ℕ) = λ first. if first then statements (suc k) else codes "proc" ∷ statements (suc k) in
+    let L : Bool → List (List ℕ) = λ first. (if first then [] else codes "proc" ∷ []) ++ statements (suc k) in
     ap L later
 
 -- the processes below a number are read, where there is one, and so many stand before the last
@@ -163,8 +163,8 @@ below_read (suc k) few =
       draft = last.draft;
       next = last.next;
       leads = leads_then begun_script d last.draft 2 before.next last.next (below (suc k) process_lines) (process_lines (suc k)) before.leads
-      (subst (λ (ls : List (List ℕ)). Leads d before.next ls last.draft last.next) (sym (later_lines k))
-      (leads_first d e last.draft before.next last.next (codes "proc") (statements (suc k)) (proc_read d before.next room) last.leads));
+          (subst (λ (ls : List (List ℕ)). Leads d before.next ls last.draft last.next) (sym (later_lines k))
+          (leads_first d e last.draft before.next last.next (codes "proc") (statements (suc k)) (proc_read d before.next room) last.leads));
       count = count;
     }
 
@@ -190,7 +190,7 @@ statements_fair p few =
 process_fair : (p : ℕ) → p < 16 → list_all is_fair (process_lines p) ≡ true
 process_fair p few = by_first (p == 0)
   where
-    by_first : (first : Bool) → list_all is_fair (if first then statements p else codes "proc" ∷ statements p) ≡ true
+    by_first : (first : Bool) → list_all is_fair ((if first then [] else codes "proc" ∷ []) ++ statements p) ≡ true
     by_first true = statements_fair p few
     by_first false = statements_fair p few
 
@@ -228,7 +228,7 @@ statements_count p = let count = lines_count p in ap (λ n. suc n) count
 process_count : (p : ℕ) → length (process_lines p) ≤ 200
 process_count p = by_first (p == 0)
   where
-    by_first : (first : Bool) → length (if first then statements p else codes "proc" ∷ statements p) ≤ 200
+    by_first : (first : Bool) → length ((if first then [] else codes "proc" ∷ []) ++ statements p) ≤ 200
     by_first true = let count = statements_count p in omega (arith, count)
     by_first false = let count = statements_count p in omega (arith, count)
 

@@ -1,5 +1,5 @@
 -- The script of a bulk run: so many processes, each of which takes sixty frames from the camera.
-use Rattle.std.specs.Prelude.{ℕ, zero, suc, ◌+◌, ◌*◌, ◌%◌, ◌==◌, List, [], ◌∷◌, ◌++◌, codes, if◌then◌else◌, slice_index_or, flat_map}
+use Rattle.std.specs.Prelude.{ℕ, zero, suc, ◌+◌, ◌*◌, ◌%◌, ◌==◌, List, [], ◌∷◌, ◌++◌, codes, if◌then◌else◌, flat_map}
 use Rattle.std.specs.Fmt.{decimal}
 
 -- ---- lines
@@ -19,15 +19,20 @@ numbered words n = (words ++ decimal n) ∷ []
 
 -- ---- a process
 
--- the codes of the formats, in their order
-abbrev pub format_words : List (List ℕ)
-format_words =
-    codes "GREY" ∷ codes "YUYV" ∷ codes "UYVY" ∷ codes "NV12" ∷ codes "YU12" ∷ codes "RGB3" ∷ []
+-- the codes of the six formats, by their place
+abbrev pub format_word : ℕ → List ℕ
+format_word place =
+    if place == 0 then codes "GREY"
+    else (if place == 1 then codes "YUYV"
+    else (if place == 2 then codes "UYVY"
+    else (if place == 3 then codes "NV12"
+    else (if place == 4 then codes "YU12"
+    else codes "RGB3"))))
 
 -- the format of the process of this number, and its width and height
 abbrev pub format_line : ℕ → List ℕ
 format_line p =
-    codes "sfmt a cap " ++ (slice_index_or format_words (p % 6) [] ++ (codes " "
+    codes "sfmt a cap " ++ (format_word (p % 6) ++ (codes " "
     ++ (decimal (64 + 16 * p) ++ (codes " " ++ decimal (48 + 16 * p)))))
 
 -- it chooses its pictures
@@ -61,9 +66,13 @@ statements p =
 
 -- ---- the script
 
--- its lines: each process but the first begins with a line of its own
+-- the line with which each process but the first begins
+abbrev pub beginning : ℕ → List (List ℕ)
+beginning p = if p == 0 then [] else codes "proc" ∷ []
+
+-- the lines of the process of this number
 abbrev pub process_lines : ℕ → List (List ℕ)
-process_lines p = if p == 0 then statements p else codes "proc" ∷ statements p
+process_lines p = beginning p ++ statements p
 
 -- the script of so many processes
 abbrev pub bulk_text : ℕ → List ℕ

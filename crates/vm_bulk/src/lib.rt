@@ -7,7 +7,7 @@ mod laws;
 mod script;
 
 pub use laws::bulk_scripts_are_read;
-pub use script::{MOST_PROCESSES, make_script};
+pub use script::make_script;
 
 #[cfg(test)]
 mod tests;

@@ -2,23 +2,17 @@
 
 ghost use Rattle.std.specs.Prelude.{◌≡◌, ◌<◌, ◌≤◌, ◌%◌, ◌++◌, [], ◌∷◌, OnOk, IfOk};
 ghost use Rattle.std.specs.Fmt.{decimal};
-ghost use Rattle.vm_bulk.specs.Bulk.{ended, below, numbered, format_line, choosing, mapping, taking, statements, process_lines, bulk_text};
+ghost use Rattle.vm_bulk.specs.Bulk.{ended, below, numbered, format_word, format_line, choosing, mapping, taking, statements, beginning, process_lines, bulk_text};
 
 use itoa::Buffer;
 use std::alloc::Global;
 use vm_mem::Memory;
-
-/// How many processes a bulk run has at most.
-pub const MOST_PROCESSES: u32 = 16;
 
 /// How many buffers each process has.
 const BUFFERS: u32 = 4;
 
 /// How many frames each process takes.
 const FRAMES: u32 = 60;
-
-/// The codes of the formats, in their order.
-const FORMATS: [&[u8]; 6] = [b"GREY", b"YUYV", b"UYVY", b"NV12", b"YU12", b"RGB3"];
 
 /// Adds bytes to a text.
 fn push(text: &mut Vec<u8>, bytes: &[u8]) -> Result<(), Memory>
@@ -53,7 +47,6 @@ fn push_numbered(text: &mut Vec<u8>, words: &[u8], number: u32) -> Result<(), Me
 }
 
 /// Adds such a line for each buffer.
-#[tactic(auto, using(crate::proofs::BulkLemmas::ended_below))]
 fn push_each(text: &mut Vec<u8>, words: &[u8]) -> Result<(), Memory>
     ensures { OnOk result (text.new.items ≡ text.old.items ++ ended (below 4 (numbered words.now))) }
 {
@@ -73,7 +66,6 @@ fn push_mapping(text: &mut Vec<u8>, k: u32) -> Result<(), Memory>
 }
 
 /// Adds the lines that map all buffers.
-#[tactic(auto, using(crate::proofs::BulkLemmas::ended_below))]
 fn push_mappings(text: &mut Vec<u8>) -> Result<(), Memory>
     ensures { OnOk result (text.new.items ≡ text.old.items ++ ended (below 4 mapping)) }
 {
@@ -93,7 +85,6 @@ fn push_taking(text: &mut Vec<u8>, k: u32) -> Result<(), Memory>
 }
 
 /// Adds the lines that take all frames.
-#[tactic(auto, using(crate::proofs::BulkLemmas::ended_below))]
 fn push_frames(text: &mut Vec<u8>) -> Result<(), Memory>
     ensures { OnOk result (text.new.items ≡
         text.old.items ++ ended (below 60 (λ r. taking (r % 4)))) }
@@ -104,13 +95,27 @@ fn push_frames(text: &mut Vec<u8>) -> Result<(), Memory>
     Ok(())
 }
 
+/// The code of the format in a place, of six.
+fn format_word(place: u32) -> &'static [u8]
+    ensures { result.now ≡ format_word place }
+{
+    match place {
+        0 => b"GREY",
+        1 => b"YUYV",
+        2 => b"UYVY",
+        3 => b"NV12",
+        4 => b"YU12",
+        _ => b"RGB3",
+    }
+}
+
 /// Adds the line that sets a process's format.
 fn push_format(text: &mut Vec<u8>, p: u32) -> Result<(), Memory>
     requires { p < 16 }
     ensures { OnOk result (text.new.items ≡ text.old.items ++ ended (format_line p ∷ [])) }
 {
     push(text, b"sfmt a cap ")?;
-    push(text, FORMATS[(p % 6) as usize])?;
+    push(text, format_word(p % 6))?;
     push(text, b" ")?;
     push_number(text, 64 + 16 * p)?;
     push_numbered(text, b" ", 48 + 16 * p)
@@ -128,7 +133,6 @@ fn push_choosing(text: &mut Vec<u8>, p: u32) -> Result<(), Memory>
 }
 
 /// Adds the statements of a process.
-#[tactic(auto, using(crate::proofs::BulkLemmas::ended_append))]
 fn push_statements(text: &mut Vec<u8>, p: u32) -> Result<(), Memory>
     requires { p < 16 }
     ensures { OnOk result (text.new.items ≡ text.old.items ++ ended (statements p)) }
@@ -143,14 +147,22 @@ fn push_statements(text: &mut Vec<u8>, p: u32) -> Result<(), Memory>
     push_line(text, b"close a")
 }
 
+/// Adds the line with which each process but the first begins.
+fn push_beginning(text: &mut Vec<u8>, p: u32) -> Result<(), Memory>
+    ensures { OnOk result (text.new.items ≡ text.old.items ++ ended (beginning p)) }
+{
+    if p == 0 {
+        return Ok(());
+    }
+    push_line(text, b"proc")
+}
+
 /// Adds the lines of a process.
 fn push_process(text: &mut Vec<u8>, p: u32) -> Result<(), Memory>
     requires { p < 16 }
     ensures { OnOk result (text.new.items ≡ text.old.items ++ ended (process_lines p)) }
 {
-    if p > 0 {
-        push_line(text, b"proc")?;
-    }
+    push_beginning(text, p)?;
     push_statements(text, p)
 }
 

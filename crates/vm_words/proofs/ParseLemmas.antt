@@ -4,12 +4,15 @@ use Rattle.std.specs.Borrow.{Bor}
 use Rattle.std.proofs.lemmas.Slice.Eq.{bytes_eq-Decides}
 use Rattle.clap.proofs.OnLiterals.{clap_on_literals}
 use Rattle.clap.specs.Facts.{Entry}
-use Rattle.clap.specs.Simple.{subcommand_of}
+use Rattle.clap.specs.Matches.{first_value, found_of, subcommand_name_of}
+use Rattle.clap.specs.Simple.{subcommand_of, subcommand_rows_of}
 use Rattle.clap.specs.Takes.{takes}
-use Rattle.clap.specs.Walk.{Text, first_of, row_of}
+use Rattle.clap.specs.Walk.{Row, Text, first_of, row_of, rows_of}
+use Rattle.clap.specs.declared.parser.matches.ArgMatches.{ArgMatches}
+use Rattle.clap.specs.declared.parser.matches.Found.{Found}
 use Rattle.vm_script.specs.Words.{number_in}
 use Rattle.vm_words.specs.Command.{command_alone, command_in, command_with, positive}
-use Rattle.vm_words.specs.Program.{program, words_told}
+use Rattle.vm_words.specs.Program.{program, words_by, words_told}
 use Rattle.vm_words.specs.declared.command.Command.{Command}
 use Rattle.vm_words.specs.declared.command.Command.TheVariants.{OnScript, Bulk}
 use Rattle.vm_words.specs.declared.command.Task.TheVariants.{Check, Run}
@@ -115,3 +118,23 @@ first_told (e ∷ es) id = by_test (bytes_eq e.0.now id) (first_told es id)
         ≡ option_and_then (λ a. option_map (λ s. s.now) (slice_get a.vals.items 0)) (option_map (λ x. x.1) (cond test (Some e) (find (λ x. bytes_eq x.0.now id) es)))
     by_test true rest = first_text e.1.vals.items
     by_test false rest = rest
+
+pub value_told : (f : Found) (id : Text) → first_of id (rows_of f) ≡ first_value f id
+value_told f id = first_told f.entries.items id
+
+-- ---- what matches ask for
+
+pub words_are : (o : Option (Text × List Row)) (name : Text) (rows : List Row) (words : List Text) → option_map (λ p. p.0) o ≡ Some name → option_map (λ p. p.1) o ≡ Some rows → option_map words_told o ≡ Some words
+    → words ≡ words_by name (first_of (codes "NUMBER") rows)
+words_are None name rows words named rowed told = absurd (cc)
+words_are (Some p) name rows words named rowed told =
+    let n : p.0 ≡ name = cc in
+    let r : p.1 ≡ rows = cc in
+    let w : words_told p ≡ words = cc in
+    sym w ∙ (ap (λ t. words_by t (first_of (codes "NUMBER") p.1)) n ∙ ap (λ rs. words_by name (first_of (codes "NUMBER") rs)) r)
+
+pub none_asked : (name : Text) (number : Option Text) (words : List Text) → number ≡ None → words ≡ words_by name number → command_in words ≡ command_alone name
+none_asked name number words none is = ap command_in (is ∙ ap (words_by name) none)
+
+pub number_asked : (name : Text) (number : Option Text) (digits : Text) (words : List Text) → number ≡ Some digits → words ≡ words_by name number → command_in words ≡ command_with name digits
+number_asked name number digits words some is = ap command_in (is ∙ ap (words_by name) some)

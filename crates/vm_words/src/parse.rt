@@ -1,10 +1,10 @@
 //! Reads words that were judged, with `clap`.
 
-ghost use Rattle.std.specs.Prelude.{◌≡◌, ℕ, List, Some, IfOk, IfErr, IsErr, IsSome, IfSome, map, option_map};
+ghost use Rattle.std.specs.Prelude.{◌≡◌, ℕ, List, Some, false, IfOk, IfErr, IsErr, IsSome, IfSome, map, option_map};
 ghost use Rattle.std.specs.String.{string_bytes};
-ghost use Rattle.clap.specs.Words.{app_of, kind_of, subcommand_rows_of};
+ghost use Rattle.clap.specs.Words.{app_of, fields_of, kind_of, subcommand_rows_of};
 ghost use Rattle.vm_words.specs.Command.{command_in, IsServed};
-ghost use Rattle.vm_words.specs.Program.{program, words_told};
+ghost use Rattle.vm_words.specs.Program.{numbered, program, words_told};
 
 use crate::command::Command;
 use crate::judge::{command_alone, command_in, command_with};
@@ -16,20 +16,32 @@ use vm_mem::Memory;
 /// The id of the value behind a subcommand.
 const NUMBER: &str = "NUMBER";
 
+/// A subcommand with a number behind it.
+fn numbered<'a>(alloc: Global, name: &'a str) -> Result<Program<'a>, Error>
+    ensures shape { IfOk result (λ told. app_of told ≡ numbered name.entry.now) }
+    ensures local { IfOk result (λ told. (fields_of told).has_globals ≡ false) }
+    ensures err { IfErr result (λ e. kind_of e ≡ ErrorKind.OutOfMemory) }
+{
+    let number = Arg::new(alloc, NUMBER);
+    let bare = Program::new(alloc, name);
+    let told = bare.arg(number)?;
+    Ok(told)
+}
+
 /// The program, with its subcommands.
 fn program<'a>(alloc: Global) -> Result<Program<'a>, Error>
-    ensures ok { IfOk result (λ program_told. app_of program_told ≡ program) }
+    ensures shape { IfOk result (λ told. app_of told ≡ program) }
     ensures err { IfErr result (λ e. kind_of e ≡ ErrorKind.OutOfMemory) }
 {
     let check = Program::new(alloc, "check");
-    let step = Program::new(alloc, "step").arg(Arg::new(alloc, NUMBER))?;
-    let bulk = Program::new(alloc, "bulk").arg(Arg::new(alloc, NUMBER))?;
-    let program = Program::new(alloc, "vmedia")
-        .no_binary_name(true)
-        .subcommand(check)?
-        .subcommand(step)?
-        .subcommand(bulk)?;
-    Ok(program)
+    let step = numbered(alloc, "step")?;
+    let bulk = numbered(alloc, "bulk")?;
+    let bare = Program::new(alloc, "vmedia");
+    let vmedia = bare.no_binary_name(true);
+    let one = vmedia.subcommand(check)?;
+    let two = one.subcommand(step)?;
+    let three = two.subcommand(bulk)?;
+    Ok(three)
 }
 
 /// The matches of words that were judged: they tell just these words.
@@ -42,11 +54,12 @@ fn matches<'a>(alloc: Global, words: &'a [String]) -> Result<ArgMatches<'a>, Err
         ≡ Some (map string_bytes words.entry.now)) }
     ensures err { IfErr result (λ e. kind_of e ≡ ErrorKind.OutOfMemory) }
 {
-    program(alloc)?.try_get_matches_from(words)
+    let told = program(alloc)?;
+    told.try_get_matches_from(words)
 }
 
 /// What matches ask for.
-fn command_told(matches: &ArgMatches) -> Option<Command>
+fn command_told<'a>(matches: &ArgMatches<'a>) -> Option<Command>
     ensures command { (words : List (List ℕ)) →
         option_map words_told (subcommand_rows_of matches.now) ≡ Some words →
         result ≡ command_in words }

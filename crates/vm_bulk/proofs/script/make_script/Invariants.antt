@@ -1,4 +1,4 @@
-use Rattle.std.proofs.Common.{◌≡◌, ◌++◌, ◌∷◌}
+use Rattle.std.proofs.Common.{◌≡◌, ◌∷◌}
 use Rattle.std.specs.Prelude.{codes}
 use Rattle.vm_bulk.specs.Bulk.{ended, below, process_lines}
 use Rattle.vm_bulk.proofs.script.make_script.Given as goal

@@ -1,4 +1,0 @@
-use Rattle.vm_words.proofs.parse.command_told.Goals as goal
-
-pub returns : goal.returns
-returns c = ?
