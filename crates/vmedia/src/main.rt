@@ -1,8 +1,12 @@
 //! Both ends of a paravirtual media device in one program.
 //!
+//! Begin with `top_plain`. Its main definition is a run of a script under a seed's schedule,
+//! `IsRun`, in `specs/Run.antt`; how the program ends is in `specs/Top.antt`.
+//!
 //! `vmedia step SEED` reads a script from standard input, runs its processes' V4L2 calls over a
-//! driver, a link and a device, and prints each handle's log. `vmedia check` reads a script alone,
-//! and `vmedia bulk N` makes one, runs it and prints what it took.
+//! driver, a link and a device, and prints each handle's log, what was mapped, and the digest of
+//! what crossed. `vmedia check` counts a script alone, and `vmedia bulk N` makes one, runs it and
+//! tells what it took.
 #![tactic(auto)]
 
 use ending::Ending;
@@ -14,6 +18,10 @@ use words::{WordsError, words_of};
 mod bulk;
 mod count;
 mod ending;
+#[cfg(test)]
+mod readback_tests;
+#[cfg(test)]
+mod ring_tests;
 mod run;
 #[cfg(test)]
 mod run_tests;
