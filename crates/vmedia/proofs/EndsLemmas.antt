@@ -113,6 +113,14 @@ module _ (words : List (List ℕ)) (before after : Outside) where
   ends_served command text told ending served answers written well read =
       ends_written text told ending (tells_served command told text served answers) written well read (served_still command told text answers)
 
+  -- the source failed, where the words ask for its script
+  pub ends_unread : (command : Command) → command_in words ≡ Some command → reads_script (Some command) ≡ true → Rose before.source.faults after.source.faults → after.sink ≡ before.sink → Ends words before after SourceFailed
+  ends_unread command served reads rose still = (ap reads_script served ∙ reads, rose, still)
+
+  -- memory was wanting, where the words are served
+  pub ends_wanting : (command : Command) → command_in words ≡ Some command → ReadsWell before after → after.sink ≡ before.sink → Ends words before after NoMemory
+  ends_wanting command served well still = (subst IsSome (sym served) refl, well, still)
+
   -- ---- the endings, one by one
 
   well_read : (e : Ending) → Ends words before after e → (status_of e ≡ 4 → ⊥) → ReadsWell before after

@@ -2,6 +2,7 @@
 
 ghost use Rattle.std.specs.Prelude.{◌≡◌, ◌≤◌, ℕ, Ok, IfOk, length};
 ghost use Rattle.vm_script.specs.Grammar.{script_of};
+ghost use Rattle.vm_script.specs.Reading.{IsReadScript};
 ghost use Rattle.vm_script.specs.Script.{ScriptLines};
 ghost use Rattle.vm_bulk.specs.Bulk.{bulk_text};
 ghost use Rattle.vm_report.specs.Logs.{Logs as Told};
@@ -43,7 +44,8 @@ pub fn check(alloc: Global, script: &Script) -> Result<Vec<u8>, Memory>
 fn made_script(alloc: Global, n: u32) -> Result<Script, Memory>
     requires some { 1 ≤ n }
     requires few { n ≤ 16 }
-    ensures { IfOk result (λ script. script_of (bulk_text n) ≡ Ok script) }
+    ensures made { IfOk result (λ script. script_of (bulk_text n) ≡ Ok script) }
+    ensures read { IfOk result (λ script. IsReadScript script) }
 {
     bulk_scripts_are_read();
     let bytes = make_script(alloc, n)?;
