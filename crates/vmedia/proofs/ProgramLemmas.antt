@@ -2,8 +2,11 @@
 use Rattle.std.proofs.Common.{◌≡◌, ◌≤◌, ◌<◌, ◌-◌, ◌^◌, ℕ, List, Ok, Err, length, refl, sym, ap, ◌∙◌, subst, arith}
 use Rattle.std.specs.Prelude.{sum_by}
 use Rattle.sha2.specs.Sha256.{sha256}
+use Rattle.vm_script.specs.declared.fault.ScriptError.{ScriptError}
+use Rattle.vm_script.specs.declared.fault.ScriptError.TheVariants.{Fault}
 use Rattle.vm_script.specs.declared.fault.ScriptFault.{ScriptFault}
 use Rattle.vm_script.specs.Grammar.{script_of}
+use Rattle.vm_script.specs.Reading.{Gives}
 use Rattle.vm_script.specs.Script.{ScriptLines}
 use Rattle.vm_bulk.specs.Bulk.{bulk_text}
 use Rattle.vm_realm.specs.World.{statement_count}
@@ -23,8 +26,10 @@ pub as_few : (bytes text : List ℕ) → bytes ≡ text → length text ≤ 4194
 as_few bytes text same few = let P : List ℕ → Type 0 = λ b. length b ≤ 4194304 in fits (length bytes) 4194304 refl (subst P (sym same) few)
 
 -- bytes that are a script's text have no fault
-pub no_fault : (bytes text : List ℕ) (s : ScriptLines) (f : ScriptFault) → bytes ≡ text → script_of text ≡ Ok s → script_of bytes ≡ Err f → ⊥
-no_fault bytes text s f same reads fault = let both : Ok s ≡ Err f = sym reads ∙ (ap script_of (sym same) ∙ fault) in cc
+pub no_fault : (bytes text : List ℕ) (s : ScriptLines) (e : ScriptError) (f : ScriptFault) → bytes ≡ text → script_of text ≡ Ok s → e ≡ Fault f → Gives (script_of bytes) (Err e) → ⊥
+no_fault bytes text s e f same reads is gives =
+    let P : ScriptError → Type 0 = λ x. Gives (script_of bytes) (Err x) in
+    let both : Ok s ≡ Err f = sym reads ∙ (ap script_of (sym same) ∙ subst P is gives) in cc
 
 pub same_script : (bytes text : List ℕ) (s : ScriptLines) → bytes ≡ text → script_of bytes ≡ Ok s → script_of text ≡ Ok s
 same_script bytes text s same reads = ap script_of (sym same) ∙ reads

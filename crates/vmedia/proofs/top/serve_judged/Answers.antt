@@ -1,9 +1,9 @@
 -- What was written, and what was read before, as an ending.
-use Rattle.std.proofs.Common.{◌≡◌, List, ℕ, Some, refl, sym, ap, ◌∙◌, subst}
+use Rattle.std.proofs.Common.{◌≡◌, List, ℕ, Some, Err, refl, sym, ap, ◌∙◌, subst}
 use Rattle.vmedia.specs.declared.ending.Ending.TheVariants.{BadWords}
 use Rattle.vm_words.specs.Command.{command_in, reads_script}
 use Rattle.vmedia.specs.Top.{IsWritten, outside, sink_view, usage_line}
-use Rattle.vmedia.proofs.EndsLemmas.{ends_served, ends_written}
+use Rattle.vmedia.proofs.EndsLemmas.{ends_served, ends_unread, ends_wanting, ends_written}
 use Rattle.vmedia.proofs.top.serve_judged.Goals as goal
 
 pub returns-in_default-clause-ends : goal.returns-in_default-clause-ends
@@ -24,3 +24,19 @@ returns-in-Ok-clause-ends g c = λ words asked.
     (g.E.Engine.faults c.answer_to.new.engine))
     c.in-Some.command c.in-Ok.answer.text.items c.in-Ok.answer.ending c.write-in-Ok.result served c.in-Ok.ensures.ok
     (subst P c.deref.ensures.value c.write-in-Ok.ensures) (c.in-Ok.ensures.well (λ failed. cc)) (λ ran reads. c.in-Ok.ensures.read ran (ap reads_script (sym served) ∙ reads))
+
+pub returns-in-Err-Source-clause-ends : goal.returns-in-Err-Source-clause-ends
+returns-in-Err-Source-clause-ends g c = λ words asked.
+    let failed = c.in-Err-Source.ensures.source (ap (λ e. Err e) c.in-Err-Source.field-0-is) in
+    ends_unread words
+    (outside (g.S.Source.left c.args.src.now) (g.S.Source.faults c.args.src.now) (g.K.Sink.held c.args.sink.now) (g.K.Sink.faults c.args.sink.now) (g.E.Engine.faults c.args.engine.now))
+    (outside (g.S.Source.left c.answer_to.new.src) (g.S.Source.faults c.answer_to.new.src) (g.K.Sink.held c.args.sink.now) (g.K.Sink.faults c.args.sink.now) (g.E.Engine.faults c.answer_to.new.engine))
+    c.in-Some.command (sym asked ∙ c.in-Some.is) failed.0 failed.1 refl
+
+pub returns-in-Err-Memory-clause-ends : goal.returns-in-Err-Memory-clause-ends
+returns-in-Err-Memory-clause-ends g c = λ words asked.
+    let wanting = c.in-Err-Memory.field-0-is in
+    ends_wanting words
+    (outside (g.S.Source.left c.args.src.now) (g.S.Source.faults c.args.src.now) (g.K.Sink.held c.args.sink.now) (g.K.Sink.faults c.args.sink.now) (g.E.Engine.faults c.args.engine.now))
+    (outside (g.S.Source.left c.answer_to.new.src) (g.S.Source.faults c.answer_to.new.src) (g.K.Sink.held c.args.sink.now) (g.K.Sink.faults c.args.sink.now) (g.E.Engine.faults c.answer_to.new.engine))
+    c.in-Some.command (sym asked ∙ c.in-Some.is) (c.in-Err-Memory.ensures.well (λ is. cc)) refl
