@@ -12,8 +12,11 @@ use Rattle.vm_bulk.specs.Bulk.{bulk_text}
 use Rattle.vm_realm.specs.World.{statement_count}
 use Rattle.vm_report.specs.Logs.{Logs}
 use Rattle.vm_report.specs.Printed.{IsPrinted}
-use Rattle.vmedia.specs.Bulk.{IsBulk, bulk_line, frames_in}
+use Rattle.vm_words.specs.declared.command.Task.{Task}
+use Rattle.vm_words.specs.declared.command.Task.TheVariants.{Check, Run}
+use Rattle.vmedia.specs.Bulk.{IsBulk, IsCounted, bulk_line, frames_in}
 use Rattle.vmedia.specs.Run.{Failures, IsRun}
+use Rattle.vmedia.specs.Top.{TellsTask, script_limit}
 
 -- ---- a script that is made
 
@@ -53,3 +56,11 @@ tells_bulk n fails s printed logs lines frames digest text made runs told count 
   told = told;
   line = line ∙ (rw (count, taken, hashed) refl);
 }
+
+-- ---- what is told of a script that is read
+
+pub tells_check : (task : Task) (fails : Failures) (s : ScriptLines) (bytes text : List ℕ) → task ≡ Check → length bytes ≤ script_limit → script_of bytes ≡ Ok s → IsCounted s text → TellsTask task fails bytes text
+tells_check task fails s bytes text is short reads counted = let P : Task → Type 0 = λ t. TellsTask t fails bytes text in subst P (sym is) (short, (s, reads, counted))
+
+pub tells_run : (task : Task) (seed : ℕ) (fails : Failures) (s : ScriptLines) (bytes text : List ℕ) → task ≡ Run seed → length bytes ≤ script_limit → script_of bytes ≡ Ok s → IsRun seed fails s text → TellsTask task fails bytes text
+tells_run task seed fails s bytes text is short reads runs = let P : Task → Type 0 = λ t. TellsTask t fails bytes text in subst P (sym is) (short, (s, reads, runs))
