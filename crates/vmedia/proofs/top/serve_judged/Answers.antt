@@ -40,3 +40,12 @@ returns-in-Err-Memory-clause-ends g c = λ words asked.
     (outside (g.S.Source.left c.args.src.now) (g.S.Source.faults c.args.src.now) (g.K.Sink.held c.args.sink.now) (g.K.Sink.faults c.args.sink.now) (g.E.Engine.faults c.args.engine.now))
     (outside (g.S.Source.left c.answer_to.new.src) (g.S.Source.faults c.answer_to.new.src) (g.K.Sink.held c.args.sink.now) (g.K.Sink.faults c.args.sink.now) (g.E.Engine.faults c.answer_to.new.engine))
     c.in-Some.command (sym asked ∙ c.in-Some.is) (c.in-Err-Memory.ensures.well (λ is. cc)) refl
+
+pub returns-in-Ok-clause-untouched : goal.returns-in-Ok-clause-untouched
+returns-in-Ok-clause-untouched g c = λ none. c.in-Ok.ensures.untouched (ap reads_script (sym c.in-Some.is) ∙ none)
+
+pub returns-in-Err-Source-clause-untouched : goal.returns-in-Err-Source-clause-untouched
+returns-in-Err-Source-clause-untouched g c = λ none. c.in-Err-Source.ensures.untouched (ap reads_script (sym c.in-Some.is) ∙ none)
+
+pub returns-in-Err-Memory-clause-untouched : goal.returns-in-Err-Memory-clause-untouched
+returns-in-Err-Memory-clause-untouched g c = λ none. c.in-Err-Memory.ensures.untouched (ap reads_script (sym c.in-Some.is) ∙ none)
