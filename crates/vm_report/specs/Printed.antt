@@ -19,7 +19,7 @@ use Rattle.vm_region.specs.declared.entry.RegionEntry.{RegionEntry}
 use Rattle.vm_region.specs.declared.entry.RegionEntry.TheVariants.{Map, Drop}
 use Rattle.vm_script.specs.Drafts.{process_limit}
 use Rattle.vm_report.specs.Logs.{HandleLog, RawLog, Logs}
-use Rattle.vm_report.specs.Text.{code_text, Words, PrintsWith}
+use Rattle.vm_report.specs.Text.{code_text, Words, HasText}
 
 -- ---- what is printed is in its range
 
@@ -140,7 +140,7 @@ IsRising least (n ∷ ns) = (least ≤ n) × IsRising n ns
 -- The text is that of the logs with these words. All is in its range, and the handles and the raw
 -- lines stand in the order in which they are printed: that of their processes.
 pub record IsPrintedWith (words : Words) (text : List ℕ) (logs : Logs) : Type 0 where
-  pub prints : PrintsWith words text logs
+  pub prints : HasText words text logs
   pub echoes : AllByRecursion (AllByRecursion IsEcho) words.calls
   pub raw_echoes : AllByRecursion IsEcho words.raws
   pub chains : AreRawWords words.raws logs.raws

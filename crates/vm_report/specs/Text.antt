@@ -196,13 +196,9 @@ all_read [] (echoes ∷ words) = false
 all_read (h ∷ hs) [] = false
 all_read (h ∷ hs) (echoes ∷ words) = reads h.name h.entries echoes && all_read hs words
 
--- These words read as the calls of these logs, each raw line has words, and the text is that of the
--- logs with them.
-abbrev pub PrintsWith : Words → List ℕ → Logs → Type 0
-PrintsWith words text logs =
+-- A part of `IsPrintedWith` (Printed.antt): these words read as the calls of these logs, each raw
+-- line has words, and the text is that of the logs with them.
+abbrev pub HasText : Words → List ℕ → Logs → Type 0
+HasText words text logs =
     IsTrue (all_read logs.handles words.calls) × (length words.raws ≡ length logs.raws) ×
     (text ≡ text_of logs words)
-
--- the text is that of the logs, with some words that read as their calls
-abbrev pub Prints : List ℕ → Logs → Type 0
-Prints text logs = (words : Words) × PrintsWith words text logs

@@ -1,8 +1,11 @@
 //! Texts that were worked outside, and what becomes of them where they are changed.
 
-use crate::{Logs, LogsError, logs_of};
+mod texts;
+
+use crate::{HandleLog, Logs, LogsError, logs_of};
 use std::alloc::{AllocError, Global};
 use std::test::Fail;
+use texts::{CAPTURE, CONVERT, DEADLOCK, ORPHAN, REFUSALS, TWO_PROCESSES, USER};
 use vm_local::Entry;
 
 /// Of a script without statements.
@@ -33,25 +36,41 @@ const RAWS: &[u8] =
 const STEP: &[u8] =
     b"handle 0 a 0\n1 open a = ok\n2 querycap a = ok 84000001 04000001\n+ finish\n13 ginput a = ok 3\nregion\nwire 2dfa5a41c51afe9aed2f7c84e01e33abb3da86033a1b017eed456fdb37788b70\n";
 
-/// How many handles there are, how many entries the first has, and how many raw lines there are.
-fn counts(alloc: Global, text: &[u8]) -> Result<(usize, usize, usize), LogsError> {
+/// How many handles there are, how many entries the first has, and how many raw lines and entries
+/// of the journal there are.
+type Counts = (usize, usize, usize, usize);
+
+/// Those of the logs of a text.
+fn counts(alloc: Global, text: &[u8]) -> Result<Counts, LogsError> {
     let logs = logs_of(alloc, text)?;
     let entries = match logs.handles.first() {
         Some(handle) => handle.entries.len(),
         None => 0,
     };
-    Ok((logs.handles.len(), entries, logs.raws.len()))
+    Ok((
+        logs.handles.len(),
+        entries,
+        logs.raws.len(),
+        logs.journal.len(),
+    ))
 }
 
 #[test]
 fn outside_texts_give_their_logs(rt: HostRuntime) -> Result<(), Fail> {
-    let rows: [(&[u8], (usize, usize, usize)); 6] = [
-        (EMPTY, (0, 0, 0)),
-        (OPEN_CLOSE, (1, 2, 0)),
-        (MANY, (3, 3, 0)),
-        (FORMATS, (1, 5, 0)),
-        (BUILT, (1, 13, 0)),
-        (RAWS, (0, 0, 12)),
+    let rows: [(&[u8], Counts); 13] = [
+        (EMPTY, (0, 0, 0, 0)),
+        (OPEN_CLOSE, (1, 2, 0, 0)),
+        (MANY, (3, 3, 0, 0)),
+        (FORMATS, (1, 5, 0, 0)),
+        (BUILT, (1, 13, 0, 0)),
+        (RAWS, (0, 0, 12, 0)),
+        (CAPTURE, (1, 52, 0, 8)),
+        (DEADLOCK, (2, 6, 0, 0)),
+        (TWO_PROCESSES, (2, 5, 0, 4)),
+        (ORPHAN, (1, 9, 0, 3)),
+        (CONVERT, (1, 18, 0, 2)),
+        (USER, (1, 14, 0, 0)),
+        (REFUSALS, (1, 12, 0, 1)),
     ];
     for (text, want) in rows {
         assert_eq!(rt; counts(rt.alloc(), text), Ok(want));
@@ -116,6 +135,90 @@ fn a_changed_byte_tells(rt: HostRuntime) -> Result<(), Fail> {
     for (at, byte, want) in rows {
         let text = changed(rt.alloc(), STEP, at, byte)?;
         assert_eq!(rt; told(rt.alloc(), &text), want);
+    }
+    Ok(())
+}
+
+/// Whether two handles have the same log.
+fn are_alike(one: &HandleLog, other: &HandleLog) -> bool {
+    one.process == other.process
+        && one.name.is(&other.name)
+        && one.session == other.session
+        && one.entries.as_slice() == other.entries.as_slice()
+}
+
+/// Whether two lists of handles have the same logs.
+fn all_alike(handles: &[HandleLog], others: &[HandleLog]) -> bool {
+    if handles.len() != others.len() {
+        return false;
+    }
+    for (one, other) in handles.iter().zip(others.iter()) {
+        if !are_alike(one, other) {
+            return false;
+        }
+    }
+    true
+}
+
+/// Whether these are the same logs.
+fn are_same(logs: &Logs, others: &Logs) -> bool {
+    all_alike(&logs.handles, &others.handles)
+        && logs.raws.as_slice() == others.raws.as_slice()
+        && logs.journal.as_slice() == others.journal.as_slice()
+        && logs.wire == others.wire
+}
+
+/// Whether a text gives the same logs with another byte in a place.
+fn keeps_its_logs(alloc: Global, text: &[u8], at: usize, byte: u8) -> Result<bool, LogsError> {
+    let logs = logs_of(alloc, text)?;
+    let copy = changed(alloc, text, at, byte).map_err(|_| LogsError::Memory)?;
+    let others = logs_of(alloc, &copy)?;
+    Ok(are_same(&logs, &others))
+}
+
+#[test]
+fn one_byte_makes_other_logs_or_none(rt: HostRuntime) -> Result<(), Fail> {
+    let rows: [(&[u8], usize, u8, Result<bool, LogsError>); 26] = [
+        // the process of the second handle, its name in the head alone, and its session's id
+        (TWO_PROCESSES, 170, b'0', Ok(false)),
+        (TWO_PROCESSES, 172, b'a', Err(LogsError::NotPrinted)),
+        (DEADLOCK, 174, b'0', Ok(false)),
+        // the journal: how often a range is mapped, its pages, and an address in upper case
+        (TWO_PROCESSES, 344, b'3', Ok(false)),
+        (TWO_PROCESSES, 342, b'0', Ok(false)),
+        (TWO_PROCESSES, 366, b'A', Err(LogsError::NotPrinted)),
+        // two lines in one
+        (TWO_PROCESSES, 162, b' ', Err(LogsError::NotPrinted)),
+        (TWO_PROCESSES, 345, b' ', Err(LogsError::NotPrinted)),
+        // a call's bytes in upper case read as before, a reply's aren't printed so
+        (ORPHAN, 115, b'A', Ok(true)),
+        (ORPHAN, 219, b'A', Err(LogsError::NotPrinted)),
+        (ORPHAN, 219, b'b', Ok(false)),
+        // another call, another memory, and a word that there isn't
+        (ORPHAN, 48, b'2', Ok(false)),
+        (CAPTURE, 479, b'9', Ok(false)),
+        (DEADLOCK, 185, b'N', Err(LogsError::NotPrinted)),
+        // no step
+        (CAPTURE, 415, b'-', Err(LogsError::NotPrinted)),
+        // other flags, and a time with a zero in front
+        (CAPTURE, 466, b'9', Ok(false)),
+        (CAPTURE, 625, b'0', Err(LogsError::NotPrinted)),
+        (REFUSALS, 274, b'9', Ok(false)),
+        // an errno that isn't the name's
+        (REFUSALS, 128, b'4', Err(LogsError::NotPrinted)),
+        (RAWS, 30, b'6', Err(LogsError::NotPrinted)),
+        // another reply, and none
+        (USER, 328, b'2', Ok(false)),
+        (USER, 323, b'-', Err(LogsError::NotPrinted)),
+        // raw lines of another process, of another room, and of no kind
+        (RAWS, 5, b'1', Ok(false)),
+        (RAWS, 251, b'5', Ok(false)),
+        (RAWS, 19, b'r', Err(LogsError::NotPrinted)),
+        // nothing changed
+        (CONVERT, 0, b'h', Ok(true)),
+    ];
+    for (text, at, byte, want) in rows {
+        assert_eq!(rt; keeps_its_logs(rt.alloc(), text, at, byte), want);
     }
     Ok(())
 }
