@@ -29,12 +29,12 @@ SCRIPT_WORDS = {
     "WORDS", "REPLY", "CODE", "CAPS", "DEVICECAPS", "WIDTH", "HEIGHT", "BYTESPERLINE", "SIZEIMAGE", "INDEX",
     "SEED", "step", "bulk", "run", "ABCD", "opem", "closse", "GRE", "then",
     "B", "C", "E", "K", "M", "USED", "SEQUENCE", "TIMESTAMP", "FLAGS", "COUNT", "LENGTH", "PAGES", "ADDRESS", "FRAME",
-    "PENDING",
+    "PENDING", "cap", "m", "v", "back", "args", "scale",
 }
 # Commands, with their words.
 COMMANDS = {
-    "rt", "ci", "check", "run", "test", "try", "fmt", "tidy", "must-fail", "python3", "only", "FILE",
-    "FUNCTION", "passed", "failed", "M", "version",
+    "rt", "ci", "check", "run", "test", "try", "fmt", "tidy", "must-fail", "python3", "only", "FILE", "FOLDER", "cases",
+    "FUNCTION", "passed", "failed", "M", "version", "proved", "no",
 }
 # The calls as the standard spells them, and a crate of the kit that isn't used yet.
 STANDARD = {"QUERYCAP", "QUERYBUF", "QBUF", "G_INPUT", "clap"}
