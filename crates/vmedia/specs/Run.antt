@@ -124,8 +124,9 @@ pub record AreTold (text : List ℕ) (logs : Logs) : Type 0 where
   pub alone : (others : Logs) → IsPrinted text others → others ≡ logs
 
 -- The seed's schedule leads from the one world, which is the script's before its first line, to the
--- other, in at most 12 steps for each statement; the logs there are legal runs of the script's lines,
--- no more frames failed than the engine did, and the text is theirs alone, in the script's own words.
+-- other, in at most 12 steps for each statement; the logs there are legal runs of the script's
+-- lines, no more frames failed than the engine did, and the text is theirs alone, in the script's
+-- own words.
 pub record IsRunBetween (seed : ℕ) (fails : Failures) (script : ScriptLines)
     (w w' : WorldState) (text : List ℕ) : Type 0 where
   pub begins : IsOpening script w

@@ -1,7 +1,11 @@
 //! Both ends of a paravirtual media device in one program.
 //!
-//! `vmedia step SEED` reads a script from standard input, runs its process's V4L2 calls over a
-//! driver, a link and a device, and prints each handle's log.
+//! Begin with `top_plain`. Its main definition is a run of a script under a seed's schedule,
+//! `IsRun`, in `specs/Run.antt`; how the program ends is in `specs/Top.antt`.
+//!
+//! `vmedia step SEED` reads a script from standard input, runs its processes' V4L2 calls over a
+//! driver, a link and a device, and prints each handle's log, what was mapped, and the digest of
+//! what crossed.
 #![tactic(auto)]
 
 use ending::Ending;
