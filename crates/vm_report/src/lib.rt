@@ -1,7 +1,8 @@
-//! What is printed of a run: which text stands for which logs, and their digest. `wire_digest`
-//! hashes what crossed, `print` writes the text of logs, and `logs_of` reads one back.
+//! What is printed of a run: which text stands for which logs, and their digest.
 //!
-//! The definitions stand in this crate's `specs/`.
+//! Begin with `print`, which writes the text of logs, `logs_of`, which reads one back, and
+//! `wire_digest`, which hashes what crossed. Its main definitions are the text of logs, `text_of`,
+//! in `specs/Text.antt`, and the digest, `digest_of`, in `specs/Digest.antt`.
 #![tactic(auto)]
 
 mod digest;

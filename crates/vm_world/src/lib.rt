@@ -1,7 +1,8 @@
 //! The world: the driver, the device, and the link between them, step by step.
 //!
-//! Begin with `World`. What a world is over plain data, which steps may come next and what each of
-//! them does is in `vm_realm`; `specs/Carried.antt` ties it to the link's parcels.
+//! Begin with `World`. Its main definition is what the link's parcels say, `IsCarried`, in
+//! `specs/Carried.antt`; what a world is over plain data, which steps may come next and what each
+//! of them does is in `vm_realm`.
 #![tactic(auto)]
 
 mod kind;
