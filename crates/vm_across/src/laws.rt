@@ -16,8 +16,8 @@ pub fn replies_are_returned()
     ensures empty { IsReturnedEmpty }
 {}
 
-/// An event chain takes each event, the driver reads in it what the device sent, and it can be posted
-/// again.
+/// An event chain takes each event, the driver reads in it what the device sent, and it can be
+/// posted again.
 pub fn events_are_delivered()
     ensures takes { TakesEvents }
     ensures brings { IsDelivered }

@@ -1,7 +1,8 @@
 //! What one end of the link writes, the other reads.
 //!
-//! Laws alone: over the driver's chains and the device's reading of them, in `specs/Across.antt`;
-//! over the lines that send them, in `specs/Lines.antt`; and over the device's steps on them, in
+//! It has laws alone: begin with `commands_are_read` and `replies_are_returned`. Its main
+//! definitions are what the device reads of the driver's chains, in `specs/Across.antt`, that what
+//! lines send is fit for it, in `specs/Lines.antt`, and the device's steps on these chains, in
 //! `specs/Served.antt`.
 #![tactic(auto)]
 

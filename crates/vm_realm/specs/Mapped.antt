@@ -109,8 +109,8 @@ abbrev pub AreLow : List LiveRange → Type 0
 AreLow rs =
     (tag : ℕ) (r : LiveRange) → range_of tag rs ≡ Some r → r.addr + 4096 * r.pages ≤ 4096 * 2 ^ 22
 
--- A live range has the tag of a frame that the session of a handle made, whose number goes into four
--- bytes, so that no other frame has this tag; and its life is that of the frame's memory.
+-- A live range has the tag of a frame that the session of a handle made, whose number goes into
+-- four bytes, so that no other frame has this tag; and its life is that of the frame's memory.
 pub record IsTagged (shares : List Share) (lives : List Life) (r : LiveRange) : Type 0 where
   pub life : Life
   pub id : ℕ
