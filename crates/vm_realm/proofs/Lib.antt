@@ -68,6 +68,7 @@ pub mod PlaceShutLemmas
 pub mod PlaceStopLemmas
 pub mod PlaceCallLemmas
 pub mod PlaceOnceLemmas
+pub mod PlaceBytesLemmas
 pub mod PlaceLogLemmas
 pub mod PlaceMadeLemmas
 pub mod PlaceFramesLemmas

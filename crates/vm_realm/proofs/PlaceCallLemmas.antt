@@ -94,7 +94,7 @@ refused_away : (along : Option ℕ) (away : Away) (reply : Reply) → AlongWith 
 refused_away None away reply with_it refused = with_it
 refused_away (Some n) away reply with_it refused = absurd (true≢false (sym refused ∙ with_it.1))
 
-refused_same : (r u : LocalState) (line : ℕ) (call : Call) (reply : Reply) → is_refusal reply ≡ true → called r line call reply ≡ Some u → u ≡ r
+pub refused_same : (r u : LocalState) (line : ℕ) (call : Call) (reply : Reply) → is_refusal reply ≡ true → called r line call reply ≡ Some u → u ≡ r
 refused_same r u line call (Refused errno) refused leads = refused_call r line call errno u leads
 refused_same r u line call reply refused leads = absurd (false≢true refused)
 

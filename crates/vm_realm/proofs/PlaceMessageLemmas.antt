@@ -179,7 +179,7 @@ frame_lent s t e m reached (inr is) leads =
     let goes : after s Bad ≡ Some t = subst (λ d. after s d ≡ Some t) is leads in
     ((leaves_still s t Bad reached refl goes).lent m, reached_after s t Bad reached goes)
 
-made_lent : (model : Model) (msg : EventMsg) (s u : LocalState) (m : ℕ) → IsReached s → replay_from s (made_by model msg) ≡ Some u → (is_lent u m ≡ is_lent s m) × IsReached u
+pub made_lent : (model : Model) (msg : EventMsg) (s u : LocalState) (m : ℕ) → IsReached s → replay_from s (made_by model msg) ≡ Some u → (is_lent u m ≡ is_lent s m) × IsReached u
 made_lent model (Happened session event) s u m reached goes = frame_lent s u Finish m reached (inl refl) (one_step (after s Finish) u goes)
 made_lent model (Dequeued session b) s u m reached goes = by_first (is_first (source_queue model) model b) (is_marked model b) goes
   where

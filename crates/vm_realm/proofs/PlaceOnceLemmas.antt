@@ -406,7 +406,7 @@ lent_made s m reached past = elim (cases_Bool (is_lent s m)) as (λ _. once (is_
   | inl lent ↦ let w : _ = lent_at s m lent in absurd (omega (arith, past, number_made s (facts_of s reached).sound w.0 w.1 m w.2))
 ]
 
-refused_is : (reply : Reply) → is_refusal reply ≡ true → (errno : Errno) × (reply ≡ Refused errno)
+pub refused_is : (reply : Reply) → is_refusal reply ≡ true → (errno : Errno) × (reply ≡ Refused errno)
 refused_is (Refused errno) is = (errno, refl)
 refused_is reply is = absurd (false≢true is)
 

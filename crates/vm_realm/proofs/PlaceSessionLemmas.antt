@@ -98,7 +98,7 @@ queues_count frames session s m (t ∷ ts) stands =
     let both : occurrences m (taken ++ rest) ≡ occurrences m taken + occurrences m rest = joined m taken rest in
     omega (arith, split, held, both, queue_count frames session s t m (stands.each t), queues_count frames session s m ts stands)
 
-queues_are : (session : SessionState) → IsSound session → session.queues ≡ map (λ t. session_queue session t) (types_of session.model)
+pub queues_are : (session : SessionState) → IsSound session → session.queues ≡ map (λ t. session_queue session t) (types_of session.model)
 queues_are session sound =
     let f : ℕ → SessionQueue = λ t. session_queue session t in
     let types : List ℕ = types_of session.model in

@@ -4,20 +4,24 @@ use Rattle.std.specs.List.{filter_map, range_with_len}
 use Rattle.std.specs.Option.{option_to_list}
 use Rattle.vm_mem.specs.Lists.{occurrences}
 use Rattle.vm_marks.specs.Marks.{places_of as marked_places}
+use Rattle.vm_frame.specs.Mem.{mem_bytes}
 use Rattle.vm_frame.specs.declared.mem.Held.{Held}
+use Rattle.vm_frame.specs.declared.mem.Mem.{Mem}
 use Rattle.vm_job.specs.Job.{JobParts}
+use Rattle.vm_lease.specs.declared.lease_out.LeaseOut.{LeaseOut}
 use Rattle.vm_local.specs.declared.entry.Entry.{Entry}
 use Rattle.vm_local.specs.declared.entry.Entry.TheVariants.{Called}
 use Rattle.vm_local.specs.State.{LocalState}
-use Rattle.vm_local.specs.Memory.{is_lent}
-use Rattle.vm_home.specs.Home.{is_kept}
+use Rattle.vm_local.specs.Memory.{bytes_of, is_lent}
+use Rattle.vm_home.specs.Home.{home_of, is_kept}
 use Rattle.vm_home.specs.Moves.{memory_at, touched, stopped_count}
+use Rattle.vm_log.specs.LegalLog.{lease_in}
 use Rattle.vm_log.specs.declared.away.Away.{Away}
 use Rattle.vm_log.specs.declared.away.Away.TheVariants.{Nothing, Sent, Lent}
 use Rattle.vm_session.specs.State.{SessionState}
 use Rattle.vm_session.specs.Buffers.{queued_memories}
 use Rattle.vm_stands.specs.Flight.{stops_queues}
-use Rattle.vm_realm.specs.Inner.{Inner, driver_state, unsent_in}
+use Rattle.vm_realm.specs.Inner.{Inner, driver_state, unsent_in, under_way}
 use Rattle.vm_realm.specs.Slice.{Slice, Out}
 use Rattle.vm_realm.specs.Slice.Out.{Nowhere, Asked, Kept, Told, Astray}
 
@@ -136,3 +140,35 @@ abbrev pub AgreesWithOwners : Slice → Inner → Type 0
 AgreesWithOwners x v =
     x.out ≡ Nowhere → (m : ℕ) → is_kept (driver_state x) m ≡ true →
     (is_lent (driver_state x) m ≡ false) ↔ (IsWithDriver x v m)
+
+-- ---- their bytes
+
+-- these memories have, one after the other, the bytes that the state has for these numbers
+abbrev pub HaveBytes : LocalState → List ℕ → List Held → Type 0
+HaveBytes s numbers held = map (λ h. mem_bytes h.mem) held ≡ map (λ m. bytes_of s m) numbers
+
+-- the memories that are with a call
+abbrev pub call_held : Out → List Held
+call_held Nowhere = []
+call_held (Asked m) = m.held
+call_held (Kept m) = m.held
+call_held (Told r) = r.held
+call_held Astray = []
+
+-- those that are with the messages under way
+abbrev pub messages_held : Slice → List Held
+messages_held x = filter_map (λ e. e.held) (under_way x)
+
+-- Each memory, at whichever of its places it is, has the bytes of the state ahead. Of those at home
+-- that is said where the handle has the memory in the state ahead, as anything may be left in the
+-- place of one that it has no more. A lease and a job have them as they went out.
+pub record HasBytesAhead (x : Slice) (v : Inner) : Type 0 where
+  pub home : (m : ℕ) (mem : Mem) → home_of x.handle.log.home m ≡ Some mem →
+      is_kept v.ahead m ≡ true → mem_bytes mem ≡ bytes_of v.ahead m
+  pub lent : (entry : LeaseOut) → lease_in x.handle.log.away ≡ Some entry →
+      mem_bytes entry.mem.value ≡ bytes_of v.ahead (touched (driver_state x) entry.call)
+  pub call : HaveBytes v.ahead (call_numbers x.out x.handle.log.away v) (call_held x.out)
+  pub messages : HaveBytes v.ahead (numbers_in (told_state v) (messages_held x)) (messages_held x)
+  pub queued : HaveBytes v.ahead (numbers_in v.ahead (queued_held x.session))
+      (queued_held x.session)
+  pub job : HaveBytes v.ahead (numbers_in v.ahead (job_held x.job)) (job_held x.job)

@@ -11,7 +11,7 @@ ghost use Rattle.vm_local.specs.Memory.{is_lent};
 ghost use Rattle.vm_log.specs.declared.away.Away.TheVariants.{Sent};
 ghost use Rattle.vm_mem.specs.Lists.{occurrences};
 ghost use Rattle.vm_realm.specs.Inner.{Inner, driver_state};
-ghost use Rattle.vm_realm.specs.Places.{AgreesWithOwners, Lies, places_of, with_driver};
+ghost use Rattle.vm_realm.specs.Places.{AgreesWithOwners, HasBytesAhead, Lies, places_of, with_driver};
 ghost use Rattle.vm_realm.specs.Slice.{Slice};
 ghost use Rattle.vm_realm.specs.Sound.{IsRunnable, IsSound, IsSoundSlice};
 ghost use Rattle.vm_realm.specs.Steps.{Steps};
@@ -140,6 +140,11 @@ pub fn owners_have_their_memories()
 /// In a sound slice each live memory is at one place, which is the driver's where the log says so.
 pub fn each_memory_is_at_one_place()
     ensures { MemoriesHavePlaces }
+{}
+
+/// In a sound slice each memory, wherever it is, has the bytes that it has in the state ahead.
+pub fn each_memory_has_its_bytes()
+    ensures { (x : Slice) (v : Inner) → IsSoundSlice x v → HasBytesAhead x v }
 {}
 
 /// Where no call was executed that isn't collected, what the device has yet to tell makes no frame.
