@@ -6,7 +6,7 @@ use Rattle.vm_realm.specs.declared.step.Step.TheVariants.{Issue, Execute, Resume
 use Rattle.vm_realm.specs.World.{WorldState}
 use Rattle.vm_realm.specs.Inner.{Inner}
 use Rattle.vm_realm.specs.Left.{left_of}
-use Rattle.vm_realm.specs.Laws.{StepKeepsSound, EachKeepsSound, StepsKeepWhole, RunsEnd}
+use Rattle.vm_realm.specs.Laws.{StepKeepsSound, EachKeepsSound, StepsKeepWhole, StepsKeepSound, RunsKeepSound, RunsEnd}
 use Rattle.vm_realm.specs.Steps.{Steps, Leads}
 use Rattle.vm_realm.specs.SliceSteps.{takes_all, TakesNone}
 use Rattle.vm_realm.specs.Mapped.{IsJournalOf}
@@ -97,13 +97,22 @@ keeps_whole w u s sound does =
     let by : _ = behind_pumps w u s sound does in
     whole_next by.0 u s by.1 by.2 by.3
 
+-- so each leads from a sound world to a sound one
+pub step_sound : StepsKeepSound
+step_sound w u s sound does = step_keeps s w u sound does (keeps_whole w u s sound does)
+
 -- ---- runs
 
--- so a sound world leads to sound ones, with less left
+-- whichever steps are done, a sound world leads to a sound one
+pub runs_sound : RunsKeepSound
+runs_sound w u [] sound is = subst IsSound (sym is) sound
+runs_sound w u (s ∷ ss) sound (next, does, rest) = runs_sound next u ss (step_sound w next s sound does) rest
+
+-- with less left
 run_falls : (steps : List Step) (w u : WorldState) → IsSound w → Leads w steps u → left_of u + length steps ≤ left_of w
 run_falls [] w u sound is = let same : left_of u ≡ left_of w = ap left_of is in omega (arith, same)
 run_falls (s ∷ ss) w u sound (next, does, rest) =
-    let more : left_of u + length ss ≤ left_of next = run_falls ss next u (step_keeps s w next sound does (keeps_whole w next s sound does)) rest in
+    let more : left_of u + length ss ≤ left_of next = run_falls ss next u (step_sound w next s sound does) rest in
     let falls : left_of next < left_of w = left_falls w next s sound does in
     omega (arith, more, falls)
 

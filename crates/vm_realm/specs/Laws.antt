@@ -154,6 +154,15 @@ pub record EachKeepsSound : Type 0 where
 abbrev pub StepsKeepWhole : Type 0
 StepsKeepWhole = (w w' : WorldState) (s : Step) → IsSound w → Steps w s w' → IsWhole w'
 
+-- so each step leads from a sound world to a sound one
+abbrev pub StepsKeepSound : Type 0
+StepsKeepSound = (w w' : WorldState) (s : Step) → IsSound w → Steps w s w' → IsSound w'
+
+-- and every list of steps does
+abbrev pub RunsKeepSound : Type 0
+RunsKeepSound =
+    (w w' : WorldState) (steps : List Step) → IsSound w → Leads w steps w' → IsSound w'
+
 -- ---- what each step asks
 
 -- the driver once the events were taken that a statement's answer comes behind

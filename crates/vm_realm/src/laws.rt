@@ -1,5 +1,5 @@
 ghost use Rattle.std.specs.Prelude.{ℕ, ◌≡◌, ◌≢◌, true, false, None, map};
-ghost use Rattle.vm_realm.specs.Laws.{CallsKeepSlice, EachKeepsSound, EnabledCanBeDone, FramesAreMade, LeftFalls, ListsEnabled, LogsGrow, MemoriesAreDropped, MemoriesHavePlaces, NoStall, NoStallOnceBegun, OpeningIsSound, OpeningLeft, PlacesStay, PumpKeepsSound, RunsEnd, SoundCanGoOn, StepKeepsSlice, StepsKeepWhole, StepsMoveOne, TakingKeepsSlice, WaitingKeepsSlice, closes_handle, gives_mapping, halts_queue, is_plain, makes_mapping, queues_buffer, FinishCounts, OthersCountNone};
+ghost use Rattle.vm_realm.specs.Laws.{CallsKeepSlice, EachKeepsSound, EnabledCanBeDone, FramesAreMade, LeftFalls, ListsEnabled, LogsGrow, MemoriesAreDropped, MemoriesHavePlaces, NoStall, NoStallOnceBegun, OpeningIsSound, OpeningLeft, PlacesStay, PumpKeepsSound, RunsEnd, RunsKeepSound, SoundCanGoOn, StepKeepsSlice, StepsKeepSound, StepsKeepWhole, StepsMoveOne, TakingKeepsSlice, WaitingKeepsSlice, closes_handle, gives_mapping, halts_queue, is_plain, makes_mapping, queues_buffer, FinishCounts, OthersCountNone};
 ghost use Rattle.vm_commute.specs.Commute.{is_open};
 ghost use Rattle.vm_device.specs.Keeps.{IsSound as IsSoundDevice};
 ghost use Rattle.vm_realm.specs.SliceSteps.{TakingIsPumping};
@@ -194,10 +194,13 @@ pub fn each_enabled_step_can_be_done()
 {}
 
 /// Each step keeps a sound world, where both ends keep to themselves; and they do so in each step.
-/// So a run of a script has at most 12 steps for each of its statements.
+/// So each step leads from a sound world to a sound one, and so does every list of steps; and a run
+/// of a script has at most 12 steps for each of its statements.
 pub fn steps_keep_the_world_sound()
     ensures sound { EachKeepsSound }
     ensures whole { StepsKeepWhole }
+    ensures each { StepsKeepSound }
+    ensures runs { RunsKeepSound }
     ensures end { RunsEnd }
 {}
 

@@ -32,7 +32,7 @@ use Rattle.vm_guest.specs.declared.status.Status.TheVariants.{AtRest, Crossing, 
 use Rattle.vm_guest.proofs.OrderlyLemmas.{at_other}
 use Rattle.vm_guest.proofs.ProcessLemmas.{is_next, if_some, kept_is}
 use Rattle.vm_realm.specs.Enabled.{waits}
-use Rattle.vm_realm.specs.Laws.{EachKeepsSound, StepsKeepWhole}
+use Rattle.vm_realm.specs.Laws.{StepsKeepSound}
 use Rattle.vm_realm.specs.Sound.{IsSound}
 use Rattle.vm_realm.specs.Steps.{DoesFinishWith}
 use Rattle.vm_realm.specs.declared.step.Step.TheVariants.{Begin, Finish, Lease, GiveBack}
@@ -41,7 +41,6 @@ use Rattle.vm_world.specs.Calls.{BeginsJob, IsBackAsItWent, LeasesLine}
 use Rattle.vm_world.specs.Carried.{IsPosted, IsBack, IsCarried, KeepsOut, world_of}
 use Rattle.vm_world.proofs.KindLemmas.{few_statements}
 use Rattle.vm_world.proofs.OfferLemmas.{waits_alike}
-use Rattle.vm_world.proofs.TurnLemmas.{sound_next}
 use Rattle.vm_world.proofs.UnderWayLemmas.{StaysUnderWay, posted_still, back_still}
 
 -- ---- what is on the link
@@ -184,29 +183,29 @@ few_begun w sound = (let all = few_statements w.script sound.1.script in let lef
 abbrev pub IsKept : ScriptLines → GuestState → HostState → Queues → Type 0
 IsKept script g h queues = IsSound (world_of script g h queues) × IsCarried g h queues
 
-begun_sound : EachKeepsSound → StepsKeepWhole → (session : ℕ) (w w' : WorldState) (job : Option JobParts) → IsSound w → BeginsJob session w job w' → IsSound w'
-begun_sound each whole session w w' None sound begins = subst IsSound (sym begins.1) sound
-begun_sound each whole session w w' (Some job) sound begins =
-    sound_next each whole w w' (Begin session) sound (begins.0, (job, begins.1.0, begins.1.1, begins.1.2))
+begun_sound : StepsKeepSound → (session : ℕ) (w w' : WorldState) (job : Option JobParts) → IsSound w → BeginsJob session w job w' → IsSound w'
+begun_sound keeps session w w' None sound begins = subst IsSound (sym begins.1) sound
+begun_sound keeps session w w' (Some job) sound begins =
+    keeps w w' (Begin session) sound (begins.0, (job, begins.1.0, begins.1.1, begins.1.2))
 
-pub begins_keeps : EachKeepsSound → StepsKeepWhole → (script : ScriptLines) (session : ℕ) (g : GuestState) (h h' : HostState) (queues : Queues) (job : Option JobParts) → IsKept script g h queues
+pub begins_keeps : StepsKeepSound → (script : ScriptLines) (session : ℕ) (g : GuestState) (h h' : HostState) (queues : Queues) (job : Option JobParts) → IsKept script g h queues
     → Begins session h job h' → IsKept script g h' queues
-begins_keeps each whole script session g h h' queues job kept begins =
+begins_keeps keeps script session g h h' queues job kept begins =
     let does = begins_over script session g h h' queues job kept.1 begins in
-    (begun_sound each whole session (world_of script g h queues) (world_of script g h' queues) job kept.0 does.0, does.1)
+    (begun_sound keeps session (world_of script g h queues) (world_of script g h' queues) job kept.0 does.0, does.1)
 
 may_finish : (o : Option JobOut) (entry : JobOut) → o ≡ Some entry → is_some (option_map (λ (e : JobOut). e.spec) o) ≡ true
 may_finish o entry is = ap (λ (x : Option JobOut). is_some (option_map (λ (e : JobOut). e.spec) x)) is
 
-pub finishes_keeps : EachKeepsSound → StepsKeepWhole → (script : ScriptLines) (g : GuestState) (h h' : HostState) (queues : Queues) (done : DoneParts) (r : Result (Unit {0}) Stranger)
+pub finishes_keeps : StepsKeepSound → (script : ScriptLines) (g : GuestState) (h h' : HostState) (queues : Queues) (done : DoneParts) (r : Result (Unit {0}) Stranger)
     → IsKept script g h queues → IsBackAsItWent done (world_of script g h queues) → OnOk r (Finishes h done h') → OnErr r (h' ≡ h) → IsKept script g h' queues
-finishes_keeps each whole script g h h' queues done (Ok x) kept back ok err =
+finishes_keeps keeps script g h h' queues done (Ok x) kept back ok err =
     let does = finishes_over script g h h' queues done kept.1 back ok in
     let w : WorldState = world_of script g h queues in
     let number : ℕ = done.job.spec.number in
     let may = may_finish (find (λ (e : JobOut). e.spec.number == number) h.device.jobs) does.0.0 does.0.2 in
-    (sound_next each whole w (world_of script g h' queues) (Finish number) kept.0 (may, (done, does.0)), does.1)
-finishes_keeps each whole script g h h' queues done (Err s) kept back ok err = subst (λ x. IsKept script g x queues) (sym err) kept
+    (keeps w (world_of script g h' queues) (Finish number) kept.0 (may, (done, does.0)), does.1)
+finishes_keeps keeps script g h h' queues done (Err s) kept back ok err = subst (λ x. IsKept script g x queues) (sym err) kept
 
 pub finished_with : (script : ScriptLines) (g : GuestState) (h h' : HostState) (queues : Queues) (w : WorldState) (done : DoneParts) (r : Result (Unit {0}) Stranger) → world_of script g h queues ≡ w
     → IsCarried g h queues → IsBackAsItWent done w → OnOk r (Finishes h done h') → OnOk r (DoesFinishWith done done.job.spec.number w (world_of script g h' queues))
@@ -215,14 +214,14 @@ finished_with script g h h' queues w done (Ok x) same carried back ok =
     (finishes_over script g h h' queues done carried (subst (IsBackAsItWent done) (sym same) back) ok).0
 finished_with script g h h' queues w done (Err s) same carried back ok = tt
 
-pub leases_keeps : EachKeepsSound → StepsKeepWhole → (script : ScriptLines) (n : ℕ) (g g' : GuestState) (h : HostState) (queues : Queues) (leased : Leased) → IsKept script g h queues
+pub leases_keeps : StepsKeepSound → (script : ScriptLines) (n : ℕ) (g g' : GuestState) (h : HostState) (queues : Queues) (leased : Leased) → IsKept script g h queues
     → Leases n g leased g' → IsKept script g' h queues
-leases_keeps each whole script n g g' h queues leased kept leases = (by_line (leasing (process_at g n)) refl leases, (leases_over script n g g' h queues leased kept.1 leases).1)
+leases_keeps keeps script n g g' h queues leased kept leases = (by_line (leasing (process_at g n)) refl leases, (leases_over script n g g' h queues leased kept.1 leases).1)
   where
     by_line : (o : Option Asked) → leasing (process_at g n) ≡ o → LeasesFor o n g leased g' → IsSound (world_of script g' h queues)
     by_line None at does = subst (λ x. IsSound (world_of script x h queues)) (sym does.1) kept.0
     by_line (Some a) at does =
-        sound_next each whole (world_of script g h queues) (world_of script g' h queues) (Lease n) kept.0 (ap is_some at, (leased, g', leases, refl))
+        keeps (world_of script g h queues) (world_of script g' h queues) (Lease n) kept.0 (ap is_some at, (leased, g', leases, refl))
 
 lent_out : (o : Option LeaseOut) (lease : LeaseParts) → option_map_or (λ (entry : LeaseOut). entry.line == lease.line) o false ≡ true → IsLeaseDone o lease
     → (entry : LeaseOut) × (o ≡ Some entry) × CameBackDone entry lease
@@ -234,14 +233,14 @@ lent_or true r other ok = refl
 lent_or false (Ok x) other ok = (let never = other.1 refl in cc)
 lent_or false (Err l) other ok = cc
 
-pub gives_back_keeps : EachKeepsSound → StepsKeepWhole → (script : ScriptLines) (n : ℕ) (g g' : GuestState) (h : HostState) (queues : Queues) (lease : LeaseParts)
+pub gives_back_keeps : StepsKeepSound → (script : ScriptLines) (n : ℕ) (g g' : GuestState) (h : HostState) (queues : Queues) (lease : LeaseParts)
     (r : Result (Unit {0}) LeaseParts) → IsKept script g h queues → (is_lent_for (process_at g n) lease.line ≡ true → IsLeaseDone (lease_out (process_at g n)) lease)
     → (IsErr r ↔ (is_lent_for (process_at g n) lease.line ≡ false)) → OnOk r (g' ≡ given_back n g lease) → OnErr r (g' ≡ g) → IsKept script g' h queues
-gives_back_keeps each whole script n g g' h queues lease (Ok x) kept back other ok err =
+gives_back_keeps keeps script n g g' h queues lease (Ok x) kept back other ok err =
     let lent = lent_or (is_lent_for (process_at g n) lease.line) (Ok x) other refl in
     let out = lent_out (lease_out (process_at g n)) lease lent (back lent) in
     let w : WorldState = world_of script g h queues in
     let w' : WorldState = world_of script (given_back n g lease) h queues in
-    let sound : IsSound w' = sound_next each whole w w' (GiveBack n) kept.0 (ap is_some out.1, (out.0, lease, out.1, out.2, refl)) in
+    let sound : IsSound w' = keeps w w' (GiveBack n) kept.0 (ap is_some out.1, (out.0, lease, out.1, out.2, refl)) in
     subst (λ y. IsKept script y h queues) (sym ok) (sound, gives_back_over n g h queues lease kept.1 lent)
-gives_back_keeps each whole script n g g' h queues lease (Err l) kept back other ok err = subst (λ y. IsKept script y h queues) (sym err) kept
+gives_back_keeps keeps script n g g' h queues lease (Err l) kept back other ok err = subst (λ y. IsKept script y h queues) (sym err) kept

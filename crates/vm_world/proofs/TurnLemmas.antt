@@ -5,32 +5,19 @@ use Rattle.std.proofs.lemmas.Bool.Decides.{nat_tests}
 use Rattle.vm_link.specs.declared.link.Turn.{Turn}
 use Rattle.vm_link.specs.declared.link.Turn.TheVariants.{Did, Idle}
 use Rattle.vm_realm.specs.Enabled.{enabled}
-use Rattle.vm_realm.specs.Laws.{StepsKeepWhole, EachKeepsSound}
+use Rattle.vm_realm.specs.Laws.{StepsKeepSound}
 use Rattle.vm_realm.specs.Left.{left_of}
 use Rattle.vm_realm.specs.Sound.{IsSound}
 use Rattle.vm_realm.specs.Steps.{Steps, Turns}
 use Rattle.vm_realm.specs.World.{WorldState, IsDone}
 use Rattle.vm_realm.specs.declared.step.Step.{Step}
-use Rattle.vm_realm.specs.declared.step.Step.TheVariants.{Issue, Execute, Resume, Begin, Finish, Announce, Collect, Pump, Lease, GiveBack}
 use Rattle.vm_realm.proofs.LeftLemmas.{left_falls}
 use Rattle.vm_realm.proofs.StallLemmas.{no_stall}
 
--- each step keeps a sound world sound
-pub sound_next : EachKeepsSound → StepsKeepWhole → (w w' : WorldState) (s : Step) → IsSound w → Steps w s w' → IsSound w'
-sound_next each whole w w' (Issue p) sound steps = each.issue p w w' sound steps (whole w w' (Issue p) sound steps)
-sound_next each whole w w' Execute sound steps = each.execute w w' sound steps (whole w w' Execute sound steps)
-sound_next each whole w w' (Resume session) sound steps = each.resume session w w' sound steps (whole w w' (Resume session) sound steps)
-sound_next each whole w w' (Begin session) sound steps = each.begin session w w' sound steps (whole w w' (Begin session) sound steps)
-sound_next each whole w w' (Finish number) sound steps = each.finish number w w' sound steps (whole w w' (Finish number) sound steps)
-sound_next each whole w w' Announce sound steps = each.announce w w' sound steps (whole w w' Announce sound steps)
-sound_next each whole w w' Collect sound steps = each.collect w w' sound steps (whole w w' Collect sound steps)
-sound_next each whole w w' Pump sound steps = each.pump w w' sound steps
-sound_next each whole w w' (Lease p) sound steps = each.lease p w w' sound steps (whole w w' (Lease p) sound steps)
-sound_next each whole w w' (GiveBack p) sound steps = each.give_back p w w' sound steps (whole w w' (GiveBack p) sound steps)
-
-pub turned_sound : EachKeepsSound → StepsKeepWhole → (turn : Turn) (w w' : WorldState) (s : Step) → IsSound w → Turns turn w s w' → IsSound w'
-turned_sound each whole Did w w' s sound turns = sound_next each whole w w' s sound turns.1
-turned_sound each whole Idle w w' s sound turns = subst IsSound (sym turns.1) sound
+-- where each step keeps a sound world sound
+pub turned_sound : StepsKeepSound → (turn : Turn) (w w' : WorldState) (s : Step) → IsSound w → Turns turn w s w' → IsSound w'
+turned_sound keeps Did w w' s sound turns = keeps w w' s sound turns.1
+turned_sound keeps Idle w w' s sound turns = subst IsSound (sym turns.1) sound
 
 -- ---- as the world's view has it
 

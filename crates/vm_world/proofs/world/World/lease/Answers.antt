@@ -2,11 +2,11 @@ use Rattle.std.proofs.Common.{subst}
 use Rattle.vm_world.specs.Calls.{LeasesLine}
 use Rattle.vm_world.specs.Carried.{world_of}
 use Rattle.vm_world.proofs.HandOverLemmas.{leases_over, leases_keeps}
-use Rattle.vm_realm.proofs.EachLemmas.{each_keeps, keeps_whole}
+use Rattle.vm_realm.proofs.EachLemmas.{step_sound}
 use Rattle.vm_world.proofs.world.World.lease.Goals as goal
 
 pub invariant_of-self : goal.invariant_of-self
-invariant_of-self g c = leases_keeps each_keeps keeps_whole c.self.inside.script c.args.p c.self.inside.guest c.lease.new.self c.self.inside.host (g.L.Link.queues c.self.inside.link) c.lease.result c.self.invariant c.lease.ensures.leases
+invariant_of-self g c = leases_keeps step_sound c.self.inside.script c.args.p c.self.inside.guest c.lease.new.self c.self.inside.host (g.L.Link.queues c.self.inside.link) c.lease.result c.self.invariant c.lease.ensures.leases
 
 pub returns : goal.returns
 returns g c =
