@@ -1,4 +1,6 @@
+pub mod DoneLemmas
 pub mod EchoLemmas
 pub mod FitLemmas
+pub mod IdLemmas
 pub mod LentLemmas
 pub mod ReadLemmas

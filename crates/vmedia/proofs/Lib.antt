@@ -1,3 +1,2 @@
 pub mod EndsLemmas
-pub mod IdLemmas
 pub mod RunLemmas

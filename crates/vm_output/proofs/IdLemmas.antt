@@ -3,7 +3,7 @@ use Rattle.std.proofs.Common.{◌≡◌, ◌<◌, ℕ, zero, suc, ◌+◌, Bool,
 use Rattle.std.proofs.lemmas.Bool.Decides.{nat_tests}
 use Rattle.std.proofs.lemmas.List.{get_or_append_left, get_or-append-add, length-append}
 use Rattle.std.proofs.lemmas.Option.{none-some}
-use Rattle.vmedia.specs.Run.{AreNumbersBelow}
+use Rattle.vm_output.specs.ScriptLogs.{AreNumbersBelow}
 
 abbrev Row : Type 0
 Row = List (Option ℕ)
