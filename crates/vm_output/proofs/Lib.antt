@@ -3,4 +3,5 @@ pub mod EchoLemmas
 pub mod FitLemmas
 pub mod IdLemmas
 pub mod LentLemmas
+pub mod OpensLemmas
 pub mod ReadLemmas

@@ -1,12 +1,13 @@
 -- The logs of a script's lines: each line is answered by its own handle, and each log is a legal run
 -- of a local one.
-use Rattle.std.specs.Prelude.{ℕ, ◌≡◌, ◌<◌, ◌+◌, List, [], ◌∷◌, ◌++◌, Option, Some, None, map, is_some, All, slice_index_or}
+use Rattle.std.specs.Prelude.{ℕ, ◌≡◌, ◌<◌, ◌+◌, true, false, List, [], ◌∷◌, ◌++◌, Option, Some, None, map, is_some, All, slice_index_or}
 use Rattle.v4l_const.specs.declared.model.Model.{Model}
 use Rattle.v4l_const.specs.declared.errno.Errno.{Errno}
 use Rattle.vm_local.specs.Log.{IsLegal}
 use Rattle.vm_handle.specs.Handle.{has_opened}
 use Rattle.vm_guest.specs.Raw.{raw_errno}
 use Rattle.vm_region.specs.Region.{IsSoundJournal}
+use Rattle.vm_script.specs.Grammar.{declares}
 use Rattle.vm_script.specs.Script.{ProcessLines, ScriptLines}
 use Rattle.vm_script.specs.Lines.{Numbered, lines_of, calls_of}
 use Rattle.vm_script.specs.declared.line.Line.{Line}
@@ -41,6 +42,11 @@ parts_of process (p ∷ ps) = parts_from process 0 p.handles p.lines ++ parts_of
 -- a log answers these calls, under this process and name
 abbrev pub part_answered : HandleLog → Part
 part_answered log = record { process = log.process; name = log.name; calls = calls_of log.entries }
+
+-- the first of these calls opens the handle, and no later one does
+abbrev pub OpensFirst : List Numbered → Type 0
+OpensFirst [] = ⊥
+OpensFirst (c ∷ cs) = (declares c.call ≡ true) × All (λ d. declares d.call ≡ false) cs
 
 -- ---- what is asked by raw lines
 

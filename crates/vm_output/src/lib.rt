@@ -10,7 +10,7 @@ mod laws;
 mod lent;
 mod report;
 
-pub use laws::done_worlds_have_their_logs;
+pub use laws::{done_worlds_have_their_logs, the_first_line_opens_its_handle};
 pub use report::text_of_run;
 
 #[cfg(test)]
