@@ -1,3 +1,5 @@
+mod converter;
+mod processes;
 pub(crate) mod rows;
 
 use crate::top::top_plain;
