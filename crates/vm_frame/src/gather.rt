@@ -27,8 +27,7 @@ fn sum_of_lens(entries: &[SgEntry]) -> u32
 /// that it and the entries behind it name. An entry lies in one page, so as many entries as there
 /// are whole pages before `at` end before it: of them only the lengths are added up.
 fn begin_of(entries: &[SgEntry], pages: &[Page], at: u32) -> (usize, u32)
-    requires sound { IsSound entries.now pages.now }
-    requires within { at ≤ length (scatter_bytes entries.now pages.now) }
+    requires { IsSound entries.now pages.now }
     ensures place { result.0 ≤ length entries.now }
     ensures before { sum_by (λ e. e.len) (take result.0 entries.now) + result.1 ≡ at }
 {
