@@ -16,6 +16,10 @@ use words::{WordsError, words_of};
 
 mod ending;
 mod judge;
+#[cfg(test)]
+mod readback_tests;
+#[cfg(test)]
+mod ring_tests;
 mod run;
 #[cfg(test)]
 mod run_tests;

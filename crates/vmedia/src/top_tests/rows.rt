@@ -174,7 +174,7 @@ wire 5eac197205b0bacac5bcee83975f4793c34f34ceffcc03b4c47745d7068a7df1\n\
 ";
 
 // Requests for buffers that are refused, and made again.
-const REQBUFS: &[u8] = b"\
+pub(crate) const REQBUFS: &[u8] = b"\
 open a\n\
 reqbufs a cap mmap 40\n\
 qbuf a cap 0\n\
@@ -201,7 +201,7 @@ wire 917ebf64b407678013f229cca7eeb9645e25789897b66bcd79f18e8f8223e726\n\
 ";
 
 // Calls that are out of turn for a buffer.
-const STATES: &[u8] = b"\
+pub(crate) const STATES: &[u8] = b"\
 open a\n\
 reqbufs a cap mmap 2\n\
 qbuf a cap 0\n\
@@ -232,7 +232,7 @@ wire 19e1ea3fa4040ff40974bfe5477bbb975010241bbe4d18b2d31eee6ef17b2fb3\n\
 ";
 
 // Calls that would wait for ever, and ones that do not block.
-const DEADLOCK: &[u8] = b"\
+pub(crate) const DEADLOCK: &[u8] = b"\
 open a\n\
 reqbufs a cap mmap 1\n\
 streamon a cap\n\
@@ -263,7 +263,7 @@ wire 61ab4c69850d5a88e6431682d66619d74824003cfa4a8fd27e54da4ea132e556\n\
 ";
 
 // Calls on a handle that was closed and opened no more.
-const AFTER_CLOSE: &[u8] = b"\
+pub(crate) const AFTER_CLOSE: &[u8] = b"\
 open a\n\
 sfmt a cap GREY 16 16\n\
 sinput a 1\n\
@@ -308,7 +308,7 @@ wire 2631c1cfd8f3de95139accd9f598fc6184556f98960bd07aa52932feb22064bf\n\
 ";
 
 // Two processes, whose mappings lie apart.
-const TWO_PROCESSES: &[u8] = b"\
+pub(crate) const TWO_PROCESSES: &[u8] = b"\
 open a\n\
 reqbufs a cap mmap 1\n\
 mmap a m cap 0\n\
@@ -359,7 +359,7 @@ wire 4fc13a8f6caedb9a8c718b0d888ce91482d2e903431b3c52b530d3ee00f61c63\n\
 ";
 
 // A mapping that outlives its buffer.
-const ORPHAN: &[u8] = b"\
+pub(crate) const ORPHAN: &[u8] = b"\
 open a\n\
 reqbufs a cap mmap 1\n\
 mmap a m cap 0\n\
@@ -390,7 +390,7 @@ wire baf35db4ad02dd75e1ab92a3f0eea83230497bc4721e38fcd6f93c5255aad25c\n\
 ";
 
 // A converter that makes one picture.
-const CONVERT: &[u8] = b"\
+pub(crate) const CONVERT: &[u8] = b"\
 device convert\n\
 open a\n\
 sfmt a out GREY 16 16\n\
@@ -436,7 +436,7 @@ wire 0f17fa3e1b83883df49bbcd5a83fd571ea34974533d60185a1937259b1b295ed\n\
 ";
 
 // Buffers of a user's memory.
-const USER: &[u8] = b"\
+pub(crate) const USER: &[u8] = b"\
 open a\n\
 sfmt a cap GREY 16 16\n\
 sinput a 1\n\
@@ -471,7 +471,7 @@ wire 4ff71339397568e865c1199dc6e2b27a309c014f19c6a45184ed2ee61842c6b9\n\
 ";
 
 // Events of a frame.
-const EVENTS: &[u8] = b"\
+pub(crate) const EVENTS: &[u8] = b"\
 open a\n\
 subscribe a 3\n\
 subscribe a 4\n\
@@ -508,7 +508,7 @@ wire dd29f8e13b0425fe1ea7eabab83b8849accb7e8d31411703200dee693f3edd8e\n\
 ";
 
 // What the camera is, offers and shows.
-const BUILT: &[u8] = b"\
+pub(crate) const BUILT: &[u8] = b"\
 open a\n\
 querycap a\n\
 enumfmt a cap 5\n\
@@ -544,7 +544,7 @@ wire 2dfa5a41c51afe9aed2f7c84e01e33abb3da86033a1b017eed456fdb37788b70\n\
 ";
 
 // A converter has no inputs.
-const CONVERTER_INPUTS: &[u8] = b"\
+pub(crate) const CONVERTER_INPUTS: &[u8] = b"\
 device convert\n\
 open a\n\
 ginput a\n\
@@ -567,7 +567,7 @@ wire d8187a14f2dd59494d275147ce9a4508b9886789c4abd3425306a1bdeb47c1ec\n\
 ";
 
 // Calls that are refused.
-const REFUSALS: &[u8] = b"\
+pub(crate) const REFUSALS: &[u8] = b"\
 open a\n\
 reqbufs a cap mmap 1\n\
 mmap a r cap 0 ro\n\
