@@ -34,7 +34,7 @@ SCRIPT_WORDS = {
 # Commands, with their words.
 COMMANDS = {
     "rt", "ci", "check", "run", "test", "try", "fmt", "tidy", "must-fail", "python3", "only", "FILE", "FOLDER", "cases",
-    "FUNCTION", "passed", "failed", "M", "version", "proved", "no",
+    "FUNCTION", "passed", "failed", "M", "version", "proved", "no", "valgrind", "tool", "callgrind", "captures",
 }
 # The calls as the standard spells them, and a crate of the kit that isn't used yet.
 STANDARD = {"QUERYCAP", "QUERYBUF", "QBUF", "G_INPUT", "clap"}

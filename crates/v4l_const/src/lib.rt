@@ -1,4 +1,8 @@
 //! The numbers and names of the V4L2 interface that the device and its driver speak.
+//!
+//! Begin with `Errno`, `IoctlCode` and `Model`. Its main definitions are the errors, in
+//! `specs/Errno.antt`, the calls that are sent, in `specs/IoctlCode.antt`, and what a model
+//! decides, in `specs/Model.antt`.
 #![tactic(auto)]
 
 mod buf_flags;

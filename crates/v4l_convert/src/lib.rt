@@ -1,4 +1,8 @@
 //! Pictures converted from one format to another of the same size.
+//!
+//! Begin with `convert`. Its main definition is the whole picture, `converted_picture`, in
+//! `v4l_format`'s `specs/Picture.antt`; those in `specs/Lines.antt` say how it is made line by
+//! line.
 #![tactic(auto)]
 
 mod copy;

@@ -1,4 +1,8 @@
 //! Picture formats: their sizes, and the pictures that patterns and conversions make.
+//!
+//! Begin with `adjust`, `pattern_byte` and `converted_byte`. Its main definitions are a format made
+//! to fit, `adjusted`, in `specs/Fmt.antt`, what each byte carries, `carried_by`, in
+//! `specs/SampleOrder.antt`, and whole pictures, in `specs/Picture.antt`.
 #![tactic(auto)]
 
 mod carried;

@@ -1,5 +1,9 @@
 //! The records of V4L2 as bytes, at their 64-bit layouts.
 //!
+//! Begin with `write_fields` and a record, as `FormatRec`. Its main definition is the bytes of a
+//! record, `layout_bytes`, in `specs/Layout.antt`; the fields of each record are in
+//! `specs/Records.antt`.
+//!
 //! A record is a list of fields, each with its offset, its width and what it holds. A writer sets
 //! these bytes, and zero in all the record's other bytes; a reader gives the fields, whatever the
 //! other bytes are.

@@ -1,4 +1,8 @@
 //! The pictures that a camera's inputs show, whole.
+//!
+//! Begin with `fill_pattern`. Its main definition is the whole picture, `pattern_picture`, in
+//! `v4l_format`'s `specs/Picture.antt`; those in `specs/Lines.antt` say how it is made line by
+//! line.
 #![tactic(auto)]
 
 mod fill;

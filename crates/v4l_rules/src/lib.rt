@@ -1,5 +1,8 @@
 //! The rules of models, queues and formats that a local handle and the device's session share,
 //! whatever else the records of their queues keep.
+//!
+//! Begin with `place_in` and `adjust_from`. Its main definitions are the queue that a type names,
+//! in `specs/Queues.antt`, and the format that a queue takes, in `specs/Formats.antt`.
 #![tactic(auto)]
 
 mod formats;

@@ -1,8 +1,8 @@
 //! The bytes of a chain in the pages that came with it: what the device may read of it, and what it
 //! writes.
 //!
-//! The program's host doesn't use it yet. `gather` reads a chain, `spread` writes a reply; the
-//! definitions are `readable_of` and `written`.
+//! Begin with `gather` and `spread`. Its main definitions are what may be read, `readable_of`, and
+//! the pages with a reply written, `written`, in `specs/Carrier.antt`.
 #![tactic(auto)]
 
 mod carrier;

@@ -1,4 +1,7 @@
 //! Chains of descriptors: the walk of a table from a head on, or its first fault.
+//!
+//! Begin with `walk`. Its main definition is the walk or its first fault, `walk_of`, in
+//! `specs/Walk.antt`.
 #![tactic(auto)]
 
 mod chain;

@@ -1,6 +1,9 @@
 //! A word that counts: the length of a list that only grows, which many threads share. The list
 //! stands in proofs alone.
 //!
+//! Begin with `Count`. Its main definition is what a thread has seen of the list, `Pass`, in
+//! `specs/Pass.antt`.
+//!
 //! What a thread knows of the list is in its pass. One pass is the holder's: it has the whole list,
 //! and it alone adds. Every other pass has a beginning of that list, so what it has seen stays
 //! true. A join shows it: whatever stands in a pass that is joined into the holder's stands in the

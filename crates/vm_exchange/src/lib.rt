@@ -1,8 +1,8 @@
 //! How each call of a handle is begun, by which command it crosses to the device, what the device
 //! answers for each reply that the call may have, and which reply the driver reads in that answer.
 //!
-//! Begin with `way_of`. All is defined over the handle's state in `specs/Exchange.antt`, and worked
-//! from its record.
+//! Begin with `way_of`. Its main definitions are how a call is begun and what crosses for it, in
+//! `specs/Exchange.antt`, over the handle's state; they are worked from its record.
 #![tactic(auto)]
 
 mod answer;

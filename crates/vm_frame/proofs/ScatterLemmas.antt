@@ -224,6 +224,17 @@ pub total_fits : (entries : List SgEntry) (pages : List Page) → IsSound entrie
 total_fits entries pages sound =
     omega (arith, total_bound (map (λ (page : Page). page.number) pages) entries (sound_of entries pages sound), sound.few_entries)
 
+front_bound : (numbers : List ℕ) (es : List SgEntry) (k : ℕ) → AreSound numbers es → total (take k es) ≤ k * 4096
+front_bound numbers es zero sound = search rules
+front_bound numbers [] (suc k) sound = search rules
+front_bound numbers (e ∷ es) (suc k) sound =
+    let lies = lies_in_one e.start e.len numbers sound.0 in
+    omega (arith, front_bound numbers es k sound.1.1, sum_by-cons (λ (e : SgEntry). e.len) e (take k es))
+
+-- the first k entries name no more bytes than k pages have
+pub front_fits : (entries : List SgEntry) (pages : List Page) (k : ℕ) → IsSound entries pages → total (take k entries) ≤ k * 4096
+front_fits entries pages k sound = front_bound (map (λ (page : Page). page.number) pages) entries k (sound_of entries pages sound)
+
 -- the bytes within the k-th entry are those behind the entries before it
 pub read_at : (mem : ℕ → List ℕ) (es : List SgEntry) (k : ℕ) (d : SgEntry) (skip count : ℕ) → Fits mem es → k < length es
     → skip + count ≤ (get_or es k d).len

@@ -23,6 +23,25 @@ fn sum_of_lens(entries: &[SgEntry]) -> u32
     entries.iter().map(|entry| entry.len).sum()
 }
 
+/// Where the bytes from `at` on begin: in the entry in this place, behind so many bytes of those
+/// that it and the entries behind it name. An entry lies in one page, so as many entries as there
+/// are whole pages before `at` end before it: of them only the lengths are added up.
+fn begin_of(entries: &[SgEntry], pages: &[Page], at: u32) -> (usize, u32)
+    requires { IsSound entries.now pages.now }
+    ensures place { result.0 ≤ length entries.now }
+    ensures before { sum_by (λ e. e.len) (take result.0 entries.now) + result.1 ≡ at }
+{
+    let near = entries.len().min((at / PAGE_SIZE) as usize);
+    let mut ahead = at - sum_of_lens(&entries[..near]);
+    'entries: for i in near..entries.len() {
+        if ahead < entries[i].len {
+            return (i, ahead);
+        }
+        ahead -= entries[i].len;
+    }
+    (entries.len(), ahead)
+}
+
 /// Fills `into` with the bytes from `at` on of those that the entries name.
 pub fn gather(entries: &[SgEntry], pages: &[Page], at: u32, into: &mut [u8])
     requires sound { IsSound entries.now pages.now }
@@ -30,14 +49,15 @@ pub fn gather(entries: &[SgEntry], pages: &[Page], at: u32, into: &mut [u8])
     ensures { into.new ≡ take (length into.old) (drop at (scatter_bytes entries.now pages.now)) }
 {
     // How many bytes of the entries that are left come before the next one that is wanted.
-    let mut ahead = at;
+    let (first, mut ahead) = begin_of(entries, pages, at);
     let mut filled = 0;
-    'entries: for entry in entries {
+    'entries: for i in first..entries.len() {
         if filled == into.len() {
             return;
         }
+        let entry = entries[i];
         let skip = ahead.min(entry.len);
-        filled += read_entry(*entry, pages, skip, &mut into[filled..]);
+        filled += read_entry(entry, pages, skip, &mut into[filled..]);
         ahead -= skip;
     }
 }
@@ -53,14 +73,15 @@ pub fn scatter(entries: &[SgEntry], pages: &mut [Page], at: u32, from: &[u8])
     ensures numbers { map (λ page. page.number) pages.new ≡ map (λ page. page.number) pages.old }
 {
     // How many bytes of the entries that are left come before the next one that is to be set.
-    let mut ahead = at;
+    let (first, mut ahead) = begin_of(entries, pages, at);
     let mut written = 0;
-    'entries: for entry in entries {
+    'entries: for i in first..entries.len() {
         if written == from.len() {
             return;
         }
+        let entry = entries[i];
         let skip = ahead.min(entry.len);
-        written += write_entry(*entry, pages, skip, &from[written..]);
+        written += write_entry(entry, pages, skip, &from[written..]);
         ahead -= skip;
     }
 }

@@ -1,4 +1,7 @@
 //! The memory of buffers: frames, and users' memory that lies scattered over pages.
+//!
+//! Begin with `Frame`, `User` and `Mem`. Its main definitions are a buffer's bytes, `mem_bytes`, in
+//! `specs/Mem.antt`, and those that scatter entries name, `scatter_bytes`, in `specs/Scatter.antt`.
 #![tactic(auto)]
 
 mod frame;

@@ -1,6 +1,9 @@
 //! The device at its end of the link: it takes the chains that the driver posts, does what they
 //! ask, and finishes them; calls that stop a busy session wait. What is done with commands, jobs
 //! and events is `vm_device`'s.
+//!
+//! Begin with `Host`. Its main definitions are the device's steps over the link's queues, in
+//! `specs/Steps.antt`, and over what is said on the link, in `specs/Part.antt`.
 #![tactic(auto)]
 
 mod chains;

@@ -1,5 +1,9 @@
 //! The outside of the product: where its script comes from, where its text goes, and the device's
 //! working unit. Each may fail, and counts its faults. The rules are this project's own.
+//!
+//! Begin with `read_all` and `write_all`, over the traits `Source` and `Sink`. Its main definitions
+//! are what became of bytes, in `specs/Bytes.antt`, and that a count rose, `Rose`, in
+//! `specs/Faults.antt`.
 #![tactic(auto)]
 
 mod engine;

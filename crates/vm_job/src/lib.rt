@@ -1,5 +1,8 @@
 //! Jobs: one frame's work for a device, with the memories that it needs, as it goes out and as it
 //! comes back.
+//!
+//! Begin with `Job`. Its main definitions are that a done job has its picture, `HasPicture`, and
+//! that it came back as it went out, `CameBack`, in `specs/Job.antt`.
 #![tactic(auto)]
 
 mod done_job;

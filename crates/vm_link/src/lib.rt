@@ -1,4 +1,7 @@
 //! The link between the driver and the device: two queues of parcels, for commands and for events.
+//!
+//! Begin with `Link`. Its main definition is each queue's size and three lists, `Queue`, in
+//! `specs/Queue.antt`.
 #![tactic(auto)]
 
 mod chain_lists;

@@ -1,5 +1,8 @@
 //! One V4L2 handle as a process alone on a machine would see it: its state, its calls with their
 //! refusals, the device's own steps, and which logs are legal.
+//!
+//! Begin with `Local` and `local_step`. Its main definitions are the table of calls, `row_of`, in
+//! `specs/Calls.antt`, and which logs are legal, `IsLegal`, in `specs/Log.antt`.
 #![tactic(auto)]
 
 mod answers;

@@ -1,4 +1,7 @@
 //! Memory that moves by ownership: what a store of bytes is, and the pages of a guest.
+//!
+//! Begin with `Store` and `GuestMemory`. Its main definition is the pages of a guest, `Pages`, in
+//! `specs/GuestMemory.antt`; what a store is stands in the trait.
 #![tactic(auto)]
 
 mod guest_memory;

@@ -1,4 +1,7 @@
 //! The device's side of a queue of buffers: each buffer is at home, queued or out.
+//!
+//! Begin with `BufQueue`. Its main definition is which buffers are queued and which are out,
+//! `Buffers`, in `specs/Buffers.antt`.
 #![tactic(auto)]
 
 mod buf_queue;

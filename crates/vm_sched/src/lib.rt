@@ -12,3 +12,6 @@ mod schedule;
 
 pub use laws::{nothing_is_out_at_first, schedules_lead};
 pub use schedule::run_schedule;
+
+#[cfg(test)]
+mod tests;

@@ -1,4 +1,7 @@
 //! Scripts: the lines that processes give to their handles.
+//!
+//! Begin with `read_script`. Its main definitions are which bytes are a script, `script_of`, in
+//! `specs/Grammar.antt`, and what each statement asks, `asked`, in `specs/Statements.antt`.
 #![tactic(auto)]
 
 mod built;

@@ -1,5 +1,8 @@
 //! A session of the device: what it keeps for one open handle of a guest, what it answers to the
 //! calls that the handle sends, and its frames: how they begin, come back and are told of.
+//!
+//! Begin with `Session`. Its main definitions are its table of calls, `ioctl_row`, in
+//! `specs/Rows.antt`, and how frames begin, come back and are told of, in `specs/Streaming.antt`.
 #![tactic(auto)]
 
 mod buffers;

@@ -1,5 +1,9 @@
 //! Scatter lists: the memory of a user as it is made, the entries as the wire brings them, and
 //! copies to and from the bytes that they name.
+//!
+//! Begin with `of_user`, `check` and `load`. Its main definitions are the memory of a line,
+//! `user_memory`, in `specs/UserMemory.antt`, and the entries that bytes are, `entries_in`, in
+//! `specs/Wire.antt`.
 #![tactic(auto)]
 
 mod copies;

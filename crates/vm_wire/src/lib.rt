@@ -1,5 +1,8 @@
 //! What goes over the link, as bytes: commands, their replies, and the messages that the device
 //! sends by itself.
+//!
+//! Begin with `encode_command` and `decode_command`. Its main definitions are the bytes of commands
+//! and replies, in `specs/Wire.antt`, and of messages, in `specs/Event.antt`.
 #![tactic(auto)]
 
 mod buffers;

@@ -1,3 +1,5 @@
+mod converter;
+mod processes;
 mod programs;
 pub(crate) mod rows;
 

@@ -11,21 +11,21 @@ use Rattle.vm_frame.proofs.gather.gather.Goals as goal
 
 pub read_entry-filled-requires-clause-fits : goal.read_entry-filled-requires-clause-fits
 read_entry-filled-requires-clause-fits c =
-    at_fits (page_bytes c.args.pages.now) c.args.entries.now c.entries.entry-index c.entries-test.true _ (fits_of c.args.entries.now c.args.pages.now c.requires.sound)
+    at_fits (page_bytes c.args.pages.now) c.args.entries.now c.entries.i c.entries-test.true _ (fits_of c.args.entries.now c.args.pages.now c.requires.sound)
 
 pub entries-preserved : goal.entries-preserved
 entries-preserved c =
     let d : SgEntry = record { start = 0; len = 0 } in
     let left = take (length c.entries.into - c.entries.filled) (drop c.entries.filled c.entries.into) in
     let left_len : length left ≡ length c.entries.into - c.entries.filled = search (rules, places) in
-    let place : total (take c.entries.entry-index c.args.entries.now) + c.entries.ahead ≡ c.args.at + c.entries.filled =
+    let place : total (take c.entries.i c.args.entries.now) + c.entries.ahead ≡ c.args.at + c.entries.filled =
     c.entries.invariant.next (omega arith) in
     let fits = fits_of c.args.entries.now c.args.pages.now c.requires.sound in
-    let bytes = next_bytes (page_bytes c.args.pages.now) c.args.entries.now c.entries.entry-index d c.args.at c.entries.ahead c.entries.filled
+    let bytes = next_bytes (page_bytes c.args.pages.now) c.args.entries.now c.entries.i d c.args.at c.entries.ahead c.entries.filled
     c.min-skip.result c.read_entry-filled.result (length left) fits c.entries-test.true c.min-skip.ensures c.read_entry-filled.ensures.count place in
     record {
       within = search (rules, places);
-      next = λ more. next_place c.args.entries.now c.entries.entry-index d c.args.at c.entries.ahead c.entries.filled
+      next = λ more. next_place c.args.entries.now c.entries.i d c.args.at c.entries.ahead c.entries.filled
           c.min-skip.result c.read_entry-filled.result (length left) c.entries-test.true c.min-skip.ensures c.read_entry-filled.ensures.count place
           (let whole : length (put_mid c.entries.filled (length c.entries.into - c.entries.filled) c.entries.into c.read_entry-filled.new.into) ≡ length c.entries.into = search (rules, places) in omega arith);
       filled = rw (c.read_entry-filled.ensures.read, append_assoc) (read_step (scatter_bytes c.args.entries.now c.args.pages.now) c.entries.into _ _ c.args.at c.entries.filled
@@ -35,7 +35,7 @@ entries-preserved c =
 pub returns : goal.returns
 returns c =
     let size = length-scatter_bytes c.args.entries.now c.args.pages.now c.requires.sound in
-    let seen : take c.entries.entry-index c.args.entries.now ≡ c.args.entries.now = take_all _ c.args.entries.now c.entries-test.false in
+    let seen : take c.entries.i c.args.entries.now ≡ c.args.entries.now = take_all _ c.args.entries.now c.entries-test.false in
     let full : length c.entries.into ≤ c.entries.filled = ⊎_elim
     (λ (more : c.entries.filled < length c.entries.into).
     let place = rw seen at (c.entries.invariant.next more) in absurd (omega arith))

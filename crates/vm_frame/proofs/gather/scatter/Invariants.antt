@@ -10,6 +10,6 @@ invariant-entries l = record {
   sound : IsSound l.entries l.pages;
   numbers : map (λ page. page.number) l.pages ≡ map (λ page. page.number) l.fn.pages;
   within : l.written ≤ length l.from;
-  next : l.written < length l.from → total (take l.entry-index l.entries) + l.ahead ≡ l.fn.at + l.written;
+  next : l.written < length l.from → total (take l.i l.entries) + l.ahead ≡ l.fn.at + l.written;
   bytes : scatter_bytes l.entries l.pages ≡ paste (scatter_bytes l.entries l.fn.pages) l.fn.at l.from l.written;
 }
