@@ -1,14 +1,15 @@
 -- What `clap` makes of words that were judged: it takes them, and its matches tell them again.
-use Rattle.std.proofs.Common.{◌≡◌, ℕ, zero, suc, ◌-◌, ◌^◌, ◌==◌, Bool, true, false, Option, Some, None, IsSome, List, [], ◌∷◌, if◌then◌else◌, cond, map, codes, bytes_eq, find, slice_get, option_map, option_and_then, refl, sym, ap, ◌∙◌, subst}
+use Rattle.std.proofs.Common.{◌≡◌, ℕ, ◌-◌, ◌^◌, Bool, true, false, Option, Some, None, IsSome, List, [], ◌∷◌, if◌then◌else◌, cond, map, codes, bytes_eq, find, slice_get, option_map, option_and_then, refl, sym, ap, ◌∙◌, subst}
 use Rattle.std.specs.Borrow.{Bor}
 use Rattle.std.proofs.lemmas.Slice.Eq.{bytes_eq-Decides}
 use Rattle.clap.proofs.OnLiterals.{clap_on_literals}
 use Rattle.clap.specs.Facts.{Entry}
-use Rattle.clap.specs.Matches.{first_value, found_of, subcommand_name_of}
+use Rattle.clap.specs.Matches.{first_value, subcommand_name_of}
 use Rattle.clap.specs.Simple.{subcommand_of, subcommand_rows_of}
 use Rattle.clap.specs.Takes.{takes}
 use Rattle.clap.specs.Walk.{Row, Text, first_of, row_of, rows_of}
 use Rattle.clap.specs.declared.parser.matches.ArgMatches.{ArgMatches}
+use Rattle.clap.specs.declared.parser.matches.ArgMatches.TheViews.{out-ArgMatches}
 use Rattle.clap.specs.declared.parser.matches.Found.{Found}
 use Rattle.vm_script.specs.Words.{number_in}
 use Rattle.vm_words.specs.Command.{command_alone, command_in, command_with, positive}
@@ -123,6 +124,13 @@ pub value_told : (f : Found) (id : Text) → first_of id (rows_of f) ≡ first_v
 value_told f id = first_told f.entries.items id
 
 -- ---- what matches ask for
+
+mapped_twice : {A B C : Type 0} (f : A → B) (g : B → C) (o : Option A) → option_map g (option_map f o) ≡ option_map (λ x. g (f x)) o
+mapped_twice f g (Some x) = refl
+mapped_twice f g None = refl
+
+pub name_told : (m : ArgMatches) → option_map (λ p. p.0) (subcommand_rows_of m) ≡ subcommand_name_of m
+name_told m = mapped_twice _ _ (out-ArgMatches m).subcommand
 
 pub words_are : (o : Option (Text × List Row)) (name : Text) (rows : List Row) (words : List Text) → option_map (λ p. p.0) o ≡ Some name → option_map (λ p. p.1) o ≡ Some rows → option_map words_told o ≡ Some words
     → words ≡ words_by name (first_of (codes "NUMBER") rows)

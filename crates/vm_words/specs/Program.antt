@@ -1,5 +1,5 @@
 -- The program's command line, as `clap` is told of it, and what its matches tell.
-use Rattle.std.specs.Prelude.{ℕ, true, List, [], ◌∷◌, codes, Option, Some, None}
+use Rattle.std.specs.Prelude.{true, List, [], ◌∷◌, codes, Option, Some, None}
 use Rattle.clap.specs.Walk.{Row, Text, first_of}
 use Rattle.clap.specs.Simple.{App, new_app, new_rule, on_top, with_rule, with_subcommand}
 

@@ -5,7 +5,8 @@ ghost use Rattle.std.specs.String.{string_bytes};
 ghost use Rattle.std.specs.Option.{option_map};
 ghost use Rattle.vm_script.specs.Words.{number_in};
 ghost use Rattle.vm_words.specs.declared.command.Command.TheVariants.{Bulk};
-ghost use Rattle.vm_words.specs.Command.{command_alone, command_in, command_with, positive, IsServed};
+ghost use Rattle.vm_words.specs.Command.{command_alone, command_in, command_with, positive};
+ghost use Rattle.vm_words.specs.Command.{IsServed};
 
 use crate::command::{Command, Task};
 use vm_script::number_of;

@@ -1,8 +1,10 @@
 //! Reads words that were judged, with `clap`.
 
-ghost use Rattle.std.specs.Prelude.{◌≡◌, ℕ, List, Some, false, IfOk, IfErr, IsErr, IsSome, IfSome, map, option_map};
+ghost use Rattle.std.specs.Prelude.{◌≡◌, ℕ, List, Some, false, map, option_map};
+ghost use Rattle.std.specs.Prelude.{IfOk, IfErr, IsErr, IsSome, IfSome};
 ghost use Rattle.std.specs.String.{string_bytes};
-ghost use Rattle.clap.specs.Words.{app_of, fields_of, kind_of, subcommand_rows_of};
+ghost use Rattle.clap.specs.Words.{app_of, kind_of, subcommand_rows_of};
+ghost use Rattle.clap.specs.declared.builder.command.Command.TheViews.{out-Command};
 ghost use Rattle.vm_words.specs.Command.{command_in, IsServed};
 ghost use Rattle.vm_words.specs.Program.{numbered, program, words_told};
 
@@ -19,7 +21,7 @@ const NUMBER: &str = "NUMBER";
 /// A subcommand with a number behind it.
 fn numbered<'a>(alloc: Global, name: &'a str) -> Result<Program<'a>, Error>
     ensures shape { IfOk result (λ told. app_of told ≡ numbered name.entry.now) }
-    ensures local { IfOk result (λ told. (fields_of told).has_globals ≡ false) }
+    ensures local { IfOk result (λ told. (out-Command told).has_globals ≡ false) }
     ensures err { IfErr result (λ e. kind_of e ≡ ErrorKind.OutOfMemory) }
 {
     let number = Arg::new(alloc, NUMBER);
