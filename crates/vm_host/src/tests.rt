@@ -1,6 +1,7 @@
 ghost use Rattle.std.specs.Prelude.{◌≤◌, length};
 
 mod capture;
+mod entries;
 mod rig;
 
 use super::*;

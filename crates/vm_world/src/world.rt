@@ -1,6 +1,7 @@
 //! The world: the two ends of a machine and the link between them.
 
-ghost use Rattle.std.specs.Prelude.{◌≡◌, ◌≤◌, ◌<◌, ◌^◌, ◌↔◌, true, false, IfOk, IfErr, IfSome, IsErr, IsTrue, OnOk, OnErr, length, slice_get};
+ghost use Rattle.std.specs.Prelude.{◌≡◌, ◌≤◌, ◌<◌, ◌^◌, ◌↔◌, ℕ, true, false, not, IfOk, IfErr, IfSome, IsErr, IsTrue, OnOk, OnErr, length, slice_get};
+ghost use Rattle.std.specs.List.{list_any};
 ghost use Rattle.vm_link.specs.declared.link.Turn.TheVariants.{Did};
 ghost use Rattle.vm_device.specs.Stream.{IsStranger};
 ghost use Rattle.vm_log.specs.Answers.{IsDone as IsLeaseDone};
@@ -8,7 +9,8 @@ ghost use Rattle.vm_host.specs.Part.{part_of};
 ghost use Rattle.vm_guest.specs.Guest.{process_at};
 ghost use Rattle.vm_guest.specs.Process.{lease_out, is_lent_for};
 ghost use Rattle.vm_guest.specs.Steps.{given_back};
-ghost use Rattle.vm_realm.specs.Enabled.{enabled, is_enabled, can_announce};
+ghost use Rattle.vm_realm.specs.Enabled.{enabled, is_enabled, begins_line, can_announce};
+ghost use Rattle.vm_realm.specs.Laws.{IsBusy};
 ghost use Rattle.vm_realm.specs.Left.{left_of};
 ghost use Rattle.vm_realm.specs.Sound.{IsRunnable, IsSound};
 ghost use Rattle.vm_realm.specs.Steps.{Turns, DoesFinishWith};
@@ -108,7 +110,11 @@ impl<L: Link> World<L> {
     /// Whether every line is answered.
     pub fn is_done(&self) -> bool
         ensures done { IsTrue result ↔ IsDone self.now }
+        // Where one isn't, some step may come next.
         ensures more { result ≡ false → 0 < length (enabled self.now) }
+        // Where a process began a line that isn't answered, one that begins no other line may.
+        ensures once_begun { (n : ℕ) → IsBusy (process_at self.now.guest n) →
+            list_any (λ s. not (begins_line s)) (enabled self.now) ≡ true }
         ensures sound { IsSound self.now }
     {
         self.guest.is_done()

@@ -9,6 +9,7 @@ use crate::top_tests::rows::{
 };
 use std::alloc::Global;
 use std::test::Fail;
+use vm_bulk::make_script;
 use vm_handle::Handle;
 use vm_io::SureEngine;
 use vm_local::Name;
@@ -122,5 +123,14 @@ fn texts_give_the_logs_of_their_runs(rt: HostRuntime) -> Result<(), Fail> {
     for script in scripts {
         assert_eq!(rt; tells_its_runs(rt.alloc(), script)?, true);
     }
+    Ok(())
+}
+
+#[test]
+fn a_bulk_run_gives_its_logs(rt: HostRuntime) -> Result<(), Fail> {
+    let script = make_script(rt.alloc(), 16)?;
+    // No script is longer.
+    assert!(rt; script.len() <= 4_194_304);
+    assert_eq!(rt; tells_its_run(rt.alloc(), &script, 0)?, true);
     Ok(())
 }

@@ -13,7 +13,7 @@ use std::test::Fail;
 use v4l_format::{pattern_byte, sizeimage};
 use vm_frame::{Frame, Held, MAX_ENTRIES, Mem, SgEntry, User};
 use vm_job::{DoneJob, Job, JobSpec, Stranger};
-use vm_link::Finished;
+use vm_link::{Finished, Parcel};
 use vm_mem::{Page, Store};
 
 const GREY: u32 = 0x5945_5247;
@@ -36,7 +36,7 @@ fn words(front: [u32; 10]) -> Words {
 // A QBUF in a session, of a type, index, memory kind and length.
 type Asked = (u32, u32, u32, u32, u32);
 
-fn qbuf(asked: Asked) -> Words {
+pub(super) fn qbuf(asked: Asked) -> Words {
     let (session, kind, index, memory, length) = asked;
     let mut words = words([3, 0, session, 15, index, kind, 0, 0, 0, 0]);
     words[19] = memory;
@@ -84,7 +84,7 @@ fn frame(alloc: Global, kind: u32, index: u32, length: u32) -> Result<Held, Fail
 }
 
 // A user's memory of so many bytes, from the front of a page on.
-fn user(alloc: Global, length: u32) -> Result<Held, Fail>
+pub(super) fn user(alloc: Global, length: u32) -> Result<Held, Fail>
     requires few { length ≤ 4096 }
     requires some { 1 ≤ length }
 {
@@ -107,7 +107,7 @@ fn none(alloc: Global) -> Result<Vec<Held>, Fail> {
     Ok(Vec::with_capacity(alloc, 80)?)
 }
 
-fn only(alloc: Global, memory: Held) -> Result<Vec<Held>, Fail> {
+pub(super) fn only(alloc: Global, memory: Held) -> Result<Vec<Held>, Fail> {
     let mut held = none(alloc)?;
     held.push(memory)?;
     Ok(held)
@@ -124,7 +124,7 @@ fn brought(mut done: Finished, index: u32) -> Result<Held, Fail> {
 // ---- steps
 
 // Sends a command with no memory, and compares the reply.
-fn call(
+pub(super) fn call(
     rig: &mut Rig,
     asked: [u32; 10],
     len: u32,
@@ -151,8 +151,13 @@ fn queue(rig: &mut Rig, memory: Held) -> Result<(), Fail> {
 
 // Sends a QBUF of so many bytes that is refused, and leaves its memories.
 fn refuse(rig: &mut Rig, asked: &Words, len: u32, held: Vec<Held>, errno: u32) -> Result<(), Fail> {
-    let count = held.len();
     let parcel = command(rig.alloc(), asked, len, ROOM, held)?;
+    refuse_chain(rig, parcel, errno)
+}
+
+// Sends a chain that is refused, and leaves its memories.
+pub(super) fn refuse_chain(rig: &mut Rig, parcel: Parcel, errno: u32) -> Result<(), Fail> {
+    let count = parcel.held.len();
     let done = rig.execute(parcel)?.ok_or("it waits")?;
     let refusal = words([errno, 0, 0, 0, 0, 0, 0, 0, 0, 0]);
     check(is_written(&done, 1, &refusal, 8), "another refusal")?;
