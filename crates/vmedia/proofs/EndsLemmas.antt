@@ -1,6 +1,6 @@
 -- Lemmas on the top call's endings: each has its cause.
 use Rattle.std.proofs.Common.{◌≡◌, true, false, ℕ, ◌==◌, ◌≤◌, ◌⊎◌, List, Option, Some, None, Ok, Err, IsSome, IfSome, length, refl, sym, ap, ◌∙◌, subst, arith, inl, inr, if◌then◌else◌}
-use Rattle.vm_io.specs.Bytes.{WasAppended, PartAppended, NothingLeft}
+use Rattle.vm_io.specs.Bytes.{WasAppended, PartAppended}
 use Rattle.vm_io.specs.Faults.{Rose}
 use Rattle.vm_script.specs.Script.{ScriptLines}
 use Rattle.vm_script.specs.Grammar.{script_of}

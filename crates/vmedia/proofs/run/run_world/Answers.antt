@@ -1,5 +1,5 @@
 -- The schedule's run ends in a sound world, and what is printed is what its driver logged.
-use Rattle.std.proofs.Common.{◌≡◌, ℕ, List, subst, sym, ap, ◌∙◌}
+use Rattle.std.proofs.Common.{◌≡◌, List, subst, sym, ap, ◌∙◌}
 use Rattle.vm_guest.specs.Guest.{GuestState, IsDone}
 use Rattle.vm_host.specs.Part.{Part}
 use Rattle.vm_region.specs.Region.{RegionState}
