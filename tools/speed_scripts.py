@@ -6,6 +6,7 @@
     python3 tools/speed_scripts.py frames FRAMES       small frames of one handle
     python3 tools/speed_scripts.py mapped FRAMES       frames of 640 by 480 in the device's memory
     python3 tools/speed_scripts.py user FRAMES         the same in the user's memory
+    python3 tools/speed_scripts.py hashes TIMES        each byte that `bulk 16` hashes in frames, so many times
 
 A process has at most 1,024 statements, so a handle at most about 500 frames.
 """
@@ -39,6 +40,19 @@ def small_captures():
     return capture((STATEMENTS - 10) // 2, 16, 16, False)
 
 
+def hashes(times):
+    """Sixteen processes that hash pictures as those of `bulk 16`, of which none is taken."""
+    lines = []
+    for p in range(16):
+        code = ["GREY", "YUYV", "UYVY", "NV12", "YU12", "RGB3"][p % 6]
+        lines += ["proc"] if p else []
+        lines += ["open a", f"sfmt a cap {code} {64 + 16 * p} {48 + 16 * p}"]
+        lines += [f"reqbufs a cap mmap {BUFFERS}"]
+        lines += [f"mmap a m{i} cap {i}" for i in range(BUFFERS)]
+        lines += [f"hash a m{i % BUFFERS}" for i in range(60 * times)] + ["close a"]
+    return lines
+
+
 def processes(count, lines):
     """The lines of so many processes that do the same."""
     return [line for p in range(count) for line in (["proc"] if p else []) + lines]
@@ -54,6 +68,7 @@ def main():
         "frames": lambda: capture(number, 16, 16, False),
         "mapped": lambda: capture(number, 640, 480, False),
         "user": lambda: capture(number, 640, 480, True),
+        "hashes": lambda: hashes(number),
     }
     if kind not in scripts:
         sys.exit(__doc__)
