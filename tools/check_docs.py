@@ -34,9 +34,9 @@ SCRIPT_WORDS = {
 # Commands, with their words.
 COMMANDS = {
     "rt", "ci", "check", "run", "test", "try", "fmt", "tidy", "must-fail", "python3", "only", "FILE", "FOLDER", "cases",
-    "FUNCTION", "passed", "failed", "M", "version", "proved", "no", "valgrind", "tool", "callgrind", "captures",
+    "FUNCTION", "passed", "failed", "M", "version", "proved", "no", "valgrind", "tool", "callgrind", "captures", "hashes",
 }
-# The calls as the standard spells them, and a crate of the kit that isn't used yet.
+# The calls as the standard spells them, and a crate of the kit.
 STANDARD = {"QUERYCAP", "QUERYBUF", "QBUF", "G_INPUT", "clap"}
 # Words of Rust and of the definitions' language, and of the kit.
 LANGUAGE = {
